@@ -1,9 +1,13 @@
--- Behind a removal of records no file is left of the tables and versions of which a commit before it left none.
-use Rattle.std.proofs.Common.{◌≡◌, ◌≢◌, ℕ, Bool, true, List, [], get_or, drop, length, Option, Some, None, IfSome, arith, sym, ap, ◌∙◌, subst}
+-- Behind a removal of records no file is left of the tables and versions of which a commit, or an opening, before it left none.
+use Rattle.std.proofs.Common.{◌≡◌, ◌≢◌, ℕ, true, false, List, [], get_or, drop, length, Option, Some, None, IfSome, Contains, arith, sym, ap, ◌∙◌, subst}
 use Rattle.lsm_below.specs.Each.{each_weaker}
 use Rattle.lsm_store.specs.World.{World}
+use Rattle.lsm_manifest.specs.Kinds.{is_orphan}
 use Rattle.lsm_manifest.specs.Names.{table_name, version_name}
+use Rattle.lsm_commit.specs.Foreign.{IsForeign}
+use Rattle.lsm_commit.proofs.PassingOpened.{no_orphan}
 use Rattle.lsm_log.specs.LogNames.{record_name}
+use Rattle.lsm_log.specs.Changes.{IsNoneOf}
 use Rattle.lsm_flush.specs.declared.jobs.Registered.{Registered}
 use Rattle.lsm_parts.specs.declared.version.super_version.SuperVersion.{SuperVersion}
 use Rattle.lsm_parts.specs.History.{SeenHistory, versions_of}
@@ -13,6 +17,7 @@ use Rattle.lsm_state.specs.Cleaning.{LeavesNoFiles}
 use Rattle.lsm_state.proofs.CleaningUp.{rotated_leaves}
 use Rattle.lsm_logged.specs.Keeping.{SeenLogged}
 use Rattle.lsm_logged.specs.Removing.{KeepsRest}
+use Rattle.lsm_logged.proofs.LogNames.{record_is_foreign}
 use Rattle.lsm_logged.proofs.Seen.{logged_with}
 
 table_apart : (i k : ℕ) → table_name i ≢ record_name k
@@ -20,6 +25,10 @@ table_apart i k e = let first = ap (λ (l : List ℕ). get_or l 0 0) e in omega 
 
 version_apart : (i k : ℕ) → version_name i ≢ record_name k
 version_apart i k e = let first = ap (λ (l : List ℕ). get_or l 0 0) e in omega (arith, first)
+
+-- an orphan is no record
+pub orphan_apart : (id : ℕ) (ids n numbers : List ℕ) → is_orphan id ids n ≡ true → IsNoneOf (Contains numbers) n
+orphan_apart id ids n numbers orphan k known e = let z : true ≡ false = sym orphan ∙ no_orphan id ids n (subst IsForeign (sym e) (record_is_foreign k)) in absurd (cc z)
 
 still_gone : (numbers ids : List ℕ) (mid new : World) (old core : SeenHistory) → KeepsRest numbers mid new → LeavesNoFiles mid ids old core → LeavesNoFiles new ids old core
 still_gone numbers ids mid new old core keeps left = record {

@@ -104,7 +104,7 @@ module _ (job : SeenCompaction) (r : Result Finished Error) (mid new : Core) (fi
   is_in h = ⊎_elim
       (λ (e : r ≡ Ok Whole).
       let m = ended (inl e) in
-      let s = subst (λ (x : Result Finished Error). OnOk x ((v : SeenVersion) × IsMergedInto job mid.history.latest.version v × IsInstalled v job.settings.watermark true (with_next_table m.1.table (closed job.number mid)) new)) e m.1.settles.ok in
+      let s = subst (λ (x : Result Finished Error). OnOk x ((v : SeenVersion) × IsMergedInto mid.next_table job mid.history.latest.version v × IsInstalled v job.settings.watermark true (with_next_table m.1.table (closed job.number mid)) new)) e m.1.settles.ok in
       put_in (with_next_table m.1.table (closed job.number mid)) s.0 true refl refl refl m.0 s.1.next.log_from s.2)
       (λ (a : IsErrOf r AfterCommit).
       let m = ended (inr (inl a)) in

@@ -11,7 +11,7 @@ use Rattle.lsm_state.specs.Calls.{Rotates}
 use Rattle.lsm_state.specs.Clearing.{Clears, ClearDeeds}
 use Rattle.lsm_flush.specs.Jobs.{SeenJob, SeenMerged, SeenWritten}
 use Rattle.lsm_state.specs.Flushes.{sealed_ids, spent, Begins, WritesTables, Registers}
-use Rattle.lsm_state.specs.WholeFlushes.{Flushes}
+use Rattle.lsm_state.specs.WholeFlushes.{Flushes, RefusesRotation}
 use Rattle.lsm_logged.specs.Keeping.{SeenLogged, is_unsure}
 use Rattle.lsm_logged.specs.Removing.{log_from_of, Forgets, HasOldOrPassed}
 
@@ -74,10 +74,11 @@ pub record Seals {S : Type 0} (id : Option ℕ) (old mid : SeenLogged S) : Type 
   pub numbers : mid.numbers ≡ old.numbers
   pub doubt : mid.doubted ≡ old.doubted
 
--- a rotation, and then a flush: the answer and the refusal name the memtable that is sealed
+-- a rotation, and then a flush: the answer and the refusal name the memtable that is sealed. Where the rotation is refused, nothing
+-- changes
 pub record FlushesBoth {S : Type 0} (w : ℕ) (r : Result (Option ℕ × Option (ℕ × Registered)) (Error × Option ℕ)) (old new : SeenLogged S) : Type 0 where
   pub ok : IfOk r (λ a. (mid : SeenLogged S) × Seals a.0 old mid × FlushesLogged w (Ok a.1) mid new)
-  pub err : IfErr r (λ e. ((e.1 ≡ None) × (new ≡ old)) ⊎ ((mid : SeenLogged S) × Seals e.1 old mid × FlushesLogged w (Err e.0) mid new))
+  pub err : IfErr r (λ e. (RefusesRotation e.1 e.0 old.core new.core × (new ≡ old)) ⊎ ((mid : SeenLogged S) × Seals e.1 old mid × FlushesLogged w (Err e.0) mid new))
 
 -- what the tree told of a job that was registered, where records that aren't removed count as not cleaned up
 abbrev pub IsRegistrySaid : Result Registered Error → Result Registered Error → Type 0

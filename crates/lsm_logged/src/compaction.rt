@@ -1,11 +1,11 @@
 // Compactions of a logged tree.
-ghost use Rattle.std.specs.Prelude.{◌≡◌, ◌<◌, ◌^◌, true, Ok};
+ghost use Rattle.std.specs.Prelude.{◌≡◌, ◌<◌, ◌^◌, true, Ok, IfOk};
 ghost use Rattle.lsm_below.specs.Numbers.{PlainNumbersAreRead};
 ghost use Rattle.lsm_commit.specs.Causes.{HasCause, Blames};
 ghost use Rattle.lsm_state.specs.Cleaning.{LeavesNoFiles, RemovesRefused};
 ghost use Rattle.lsm_state.specs.Commits.{Upholds};
 ghost use Rattle.lsm_state.specs.CompactionDeeds.{CompactionsAreDeeds};
-ghost use Rattle.lsm_state.specs.Compactions.{given_up, LeavesNoneChosen, BeginsChoice, BeginsCompaction, Finishes, Spends};
+ghost use Rattle.lsm_state.specs.Compactions.{given_up, InstallsOrRests, EndsOrRests, LeavesNoneChosen, BeginsChoice, BeginsCompaction, Finishes, Spends};
 ghost use Rattle.lsm_state.specs.FlushLaws.{FlushesAreDeeds};
 ghost use Rattle.lsm_state.specs.Kept.{IsKeptTree};
 ghost use Rattle.lsm_state.specs.WholeCompactions.{CompactsChoice, Compacts, DropsRange, options_at, only_memory, major_choice, drop_choice};
@@ -52,6 +52,8 @@ impl<S: Store> Logged<S> {
         ensures causes { HasCause (Blames result) (S.world self.old.store) (S.world self.new.store) }
         // Behind a whole clean-up no file is left of what went.
         ensures gone { S.tells → result ≡ Ok Begun.Installed → LeavesNoFiles (S.world self.new.store) (given_up choice) self.old.core.history self.new.core.history }
+        // Where nothing is installed, and nothing refused, no call of the store is made.
+        ensures rests { IfOk result (λ b. InstallsOrRests b self.old.store self.new.store) }
         // After an unknown outcome no call of the store is made.
         ensures no_call { is_unsure self.old ≡ true → self.new.store ≡ self.old.store }
     {
@@ -82,6 +84,8 @@ impl<S: Store> Logged<S> {
         ensures causes { HasCause (Blames result) (S.world self.old.store) (S.world self.new.store) }
         // Behind a whole clean-up no file is left of what went.
         ensures gone { S.tells → result ≡ Ok Begun.Installed → LeavesNoneChosen (S.world self.new.store) (may_choose strategy.now) self.old.core self.new.core }
+        // Where nothing is installed, and nothing refused, no call of the store is made.
+        ensures rests { IfOk result (λ b. InstallsOrRests b self.old.store self.new.store) }
         // After an unknown outcome no call of the store is made.
         ensures no_call { is_unsure self.old ≡ true → self.new.store ≡ self.old.store }
     {
@@ -112,6 +116,8 @@ impl<S: Store> Logged<S> {
         ensures causes { HasCause (Blames result) (S.world self.old.store) (S.world self.new.store) }
         // Behind a whole clean-up no file is left of what went.
         ensures gone { S.tells → result ≡ Ok Begun.Installed → LeavesNoneChosen (S.world self.new.store) (C.may_choose strategy.now) self.old.core self.new.core }
+        // Where nothing is installed, and nothing refused, no call of the store is made.
+        ensures rests { IfOk result (λ b. InstallsOrRests b self.old.store self.new.store) }
         // After an unknown outcome no call of the store is made.
         ensures no_call { is_unsure self.old ≡ true → self.new.store ≡ self.old.store }
     {
@@ -138,6 +144,8 @@ impl<S: Store> Logged<S> {
         ensures causes { HasCause (Blames result) (S.world self.old.store) (S.world self.new.store) }
         // Behind a whole clean-up no file is left of what went.
         ensures gone { S.tells → result ≡ Ok Finished.Installed → LeavesNoFiles (S.world self.new.store) merged.job.ids self.old.core.history self.new.core.history }
+        // Where nothing is installed, and nothing refused, no call of the store is made.
+        ensures rests { IfOk result (λ f. EndsOrRests f self.old.store self.new.store) }
         // Refused, no table's file is left of what it wrote, unless a call of the store failed, or a version may name it.
         ensures refused { S.tells → RemovesRefused result self.old.core self.new.core (S.world self.old.store) (S.world self.new.store) }
         // After an unknown outcome no call of the store is made.
@@ -178,6 +186,8 @@ impl<S: Store> Logged<S> {
         ensures causes { HasCause (Blames result) (S.world self.old.store) (S.world self.new.store) }
         // Behind a whole clean-up no file is left of what went.
         ensures gone { S.tells → result ≡ Ok Begun.Installed → LeavesNoFiles (S.world self.new.store) (given_up choice) self.old.core.history self.new.core.history }
+        // Where nothing is installed, and nothing refused, no call of the store is made.
+        ensures rests { IfOk result (λ b. InstallsOrRests b self.old.store self.new.store) }
         // Refused, no table's file is left of what it wrote, unless a call of the store failed, or a version may name it.
         ensures refused { S.tells → RemovesRefused result self.old.core self.new.core (S.world self.old.store) (S.world self.new.store) }
         // After an unknown outcome no call of the store is made.
@@ -210,6 +220,8 @@ impl<S: Store> Logged<S> {
         ensures causes { HasCause (Blames result) (S.world self.old.store) (S.world self.new.store) }
         // Behind a whole clean-up no file is left of what went.
         ensures gone { S.tells → result ≡ Ok Begun.Installed → LeavesNoneChosen (S.world self.new.store) (may_choose strategy.now) self.old.core self.new.core }
+        // Where nothing is installed, and nothing refused, no call of the store is made.
+        ensures rests { IfOk result (λ b. InstallsOrRests b self.old.store self.new.store) }
         // Refused, no table's file is left of what it wrote, unless a call of the store failed, or a version may name it.
         ensures refused { S.tells → RemovesRefused result self.old.core self.new.core (S.world self.old.store) (S.world self.new.store) }
         // After an unknown outcome no call of the store is made.
@@ -242,6 +254,8 @@ impl<S: Store> Logged<S> {
         ensures causes { HasCause (Blames result) (S.world self.old.store) (S.world self.new.store) }
         // Behind a whole clean-up no file is left of what went.
         ensures gone { S.tells → result ≡ Ok Begun.Installed → LeavesNoneChosen (S.world self.new.store) (C.may_choose strategy.now) self.old.core self.new.core }
+        // Where nothing is installed, and nothing refused, no call of the store is made.
+        ensures rests { IfOk result (λ b. InstallsOrRests b self.old.store self.new.store) }
         // Refused, no table's file is left of what it wrote, unless a call of the store failed, or a version may name it.
         ensures refused { S.tells → RemovesRefused result self.old.core self.new.core (S.world self.old.store) (S.world self.new.store) }
         // After an unknown outcome no call of the store is made.
@@ -270,6 +284,8 @@ impl<S: Store> Logged<S> {
         ensures causes { HasCause (Blames result) (S.world self.old.store) (S.world self.new.store) }
         // Behind a whole clean-up no file is left of what went.
         ensures gone { S.tells → result ≡ Ok Begun.Installed → LeavesNoneChosen (S.world self.new.store) (major_choice target) self.old.core self.new.core }
+        // Where nothing is installed, and nothing refused, no call of the store is made.
+        ensures rests { IfOk result (λ b. InstallsOrRests b self.old.store self.new.store) }
         // Refused, no table's file is left of what it wrote, unless a call of the store failed, or a version may name it.
         ensures refused { S.tells → RemovesRefused result self.old.core self.new.core (S.world self.old.store) (S.world self.new.store) }
         // After an unknown outcome no call of the store is made.
@@ -299,6 +315,8 @@ impl<S: Store> Logged<S> {
         ensures causes { HasCause (Blames result) (S.world self.old.store) (S.world self.new.store) }
         // Behind a whole clean-up no file is left of what went.
         ensures gone { S.tells → result ≡ Ok Begun.Installed → LeavesNoneChosen (S.world self.new.store) (drop_choice bounds) self.old.core self.new.core }
+        // Where nothing is installed, and nothing refused, no call of the store is made.
+        ensures rests { IfOk result (λ b. InstallsOrRests b self.old.store self.new.store) }
         // Refused, no table's file is left of what it wrote, unless a call of the store failed, or a version may name it.
         ensures refused { S.tells → RemovesRefused result self.old.core self.new.core (S.world self.old.store) (S.world self.new.store) }
         // After an unknown outcome no call of the store is made.

@@ -1,5 +1,5 @@
 // Flushes of a logged tree, and a clear.
-ghost use Rattle.std.specs.Prelude.{◌≡◌, ◌⊎◌, ◌<◌, ◌^◌, [], true, false, map, IfOk, IfErr, OnOk, IfSome, IsErrOf};
+ghost use Rattle.std.specs.Prelude.{◌≡◌, ◌⊎◌, ◌<◌, ◌^◌, [], true, false, None, map, IfOk, IfErr, OnOk, IfSome, IsErrOf};
 ghost use Rattle.lsm_commit.specs.Causes.{HasCause, Blames};
 ghost use Rattle.lsm_state.specs.Causes.{BlamesOrUncleanFlush, BlamesOrUncleanBehind, BlamesOrUnclean, BlamesBeside};
 ghost use Rattle.lsm_state.specs.Cleaning.{LeavesNoFiles, RemovesDrawn, RemovesTables};
@@ -80,6 +80,8 @@ impl<S: Store> Logged<S> {
         ensures causes { HasCause (BlamesOrUncleanFlush result) (S.world self.old.store) (S.world self.new.store) }
         // Behind a whole clean-up no file is left of what went.
         ensures gone { S.tells → IfOk result (λ a. IfSome a (λ p. p.1.cleaned ≡ true → LeavesNoFiles (S.world self.new.store) [] self.old.core.history self.new.core.history)) }
+        // Where nothing is sealed no call of the store is made.
+        ensures rests { IfOk result (λ a. a ≡ None → self.new.store ≡ self.old.store) }
         // Refused, no table's file is left of what it wrote, unless a call of the store failed, or the outcome of a commit is
         // unknown.
         ensures refused { S.tells → self.old.core.next_table < LIMIT → IfErr result (λ e. (e ≡ Error.CommitUnknown → ⊥) → RemovesDrawn self.old.core.next_table self.new.core.next_table (S.world self.old.store) (S.world self.new.store)) }
@@ -218,6 +220,8 @@ impl<S: Store> Logged<S> {
         ensures causes { HasCause (BlamesOrUnclean result) (S.world self.old.store) (S.world self.new.store) }
         // Behind a whole clean-up no file is left of what went.
         ensures gone { S.tells → IfOk result (λ a. a.installed ≡ true → a.cleaned ≡ true → LeavesNoFiles (S.world self.new.store) [] self.old.core.history self.new.core.history) }
+        // Where the job is stale, no call of the store is made.
+        ensures rests { IfOk result (λ a. a.installed ≡ false → self.new.store ≡ self.old.store) }
         // Refused so while it is current, no file is left of its tables, unless a call of the store failed.
         ensures refused { S.tells → IsCurrent job self.old.core → IsErrOf result Error.OutOfNumbers ⊎ IsErrOf result Error.TooManyRuns → RemovesTables (map (λ t. t.id) job.tables) (S.world self.old.store) (S.world self.new.store) }
         // After an unknown outcome no call of the store is made.

@@ -1,10 +1,13 @@
 // A logged tree is opened over a store, and gives it back.
-ghost use Rattle.std.specs.Prelude.{◌≡◌, ◌⊎◌, ◌<◌, ◌^◌, ℕ, List, None, Contains, IfOk, IfErr, OnOk, IsErrOf, IfSome, IfNone};
+ghost use Rattle.std.specs.Prelude.{◌≡◌, ◌⊎◌, ◌<◌, ◌^◌, ℕ, true, List, None, Contains, IfOk, IfErr, OnOk, IsErrOf, IfSome, IfNone};
 ghost use Rattle.std.specs.List.{All, AllByRecursion};
 ghost use Rattle.std.specs.List.Sorted.{IsStrictlyIncreasing};
 ghost use Rattle.lsm_store.specs.World.{Same, LeavesOnly};
 ghost use Rattle.lsm_tables.specs.Image.{Fits};
 ghost use Rattle.lsm_model.specs.Ops.{op_entries};
+ghost use Rattle.lsm_manifest.specs.Kinds.{is_orphan};
+ghost use Rattle.lsm_manifest.specs.Spelling.{ids_of};
+ghost use Rattle.lsm_manifest.specs.Recovery.{Levels, IsNamed};
 ghost use Rattle.lsm_manifest.specs.Ready.{IsReady};
 ghost use Rattle.lsm_commit.specs.Stored.{CountsFaults};
 ghost use Rattle.lsm_log.specs.LogNames.{record_name};
@@ -152,6 +155,8 @@ impl<S: Store> Logged<S> {
     pub fn open(alloc: Global, config: Config, store: S) -> Result<Logged<S>, (Error, S)>
         ensures opens { IfOk result (OpensLogged S.tells S.world store config) }
         ensures refused { S.tells → IfErr result (λ e. RefusesLogged (S.world store) (S.world e.1) e.0) }
+        // Opened, no orphan is left.
+        ensures removes { S.tells → (id : ℕ) (ls : Levels) → IsNamed (S.world store).gives id ls → IfOk result (λ t. (n : List ℕ) → is_orphan id (ids_of ls) n ≡ true → (S.world t.store).gives n ≡ None) }
         // What a crash leaves at each moment of it reads as what it could leave before: the same version, and the same
         // records from its `log_from` on; and the store may be opened again.
         ensures leaves { S.tells → IsReady (S.world store) → LeavesAsBefore (S.world store) (S.world (logged_left result)) }

@@ -228,7 +228,7 @@ module _ (job : SeenCompaction) (events : List Event) (old new : Core) where
   -- a merge that no reason declines
   merge_goes : (n : ℕ) (r : Result Finished Error) → InstallsMerge job r (closed n old) new → IfOk r (λ f. f ≡ Done) → TellsMerge r old events → GoesOn events old new
   merge_goes n (Ok f) i done tells =
-      let s = settled (IsMergedInto job old.history.latest.version) job.settings.watermark (Ok f) (with_next_table i.table (closed n old)) new i.settles i.only in
+      let s = settled (IsMergedInto old.next_table job old.history.latest.version) job.settings.watermark (Ok f) (with_next_table i.table (closed n old)) new i.settles i.only in
       installed_goes n (tells.done (inl (ap Ok done))) s.ok s.merges
   merge_goes n (Err e) i done tells =
       ⊎_elim
@@ -245,7 +245,7 @@ module _ (job : SeenCompaction) (events : List Event) (old new : Core) where
       i.only
     where
       s : Settled {T = Finished} (Err e) (with_next_table i.table (closed n old)) new
-      s = settled (IsMergedInto job old.history.latest.version) job.settings.watermark (Err e) (with_next_table i.table (closed n old)) new i.settles i.only
+      s = settled (IsMergedInto old.next_table job old.history.latest.version) job.settings.watermark (Err e) (with_next_table i.table (closed n old)) new i.settles i.only
 
       quietly : events ≡ [] → GoesOn events old new
       quietly is = nothing_goes events old new is s.rises (λ journal. closed_marked old new journal [] n (ap (λ (ms : SeenMerges). ms.underway) s.merges))

@@ -308,7 +308,7 @@ module _ (law : MergesOfInputsAreSteps) (job : SeenCompaction) (old : Core) (kep
   abbrev mid : Core
   mid = with_next_table table (closed job.number old)
 
-  merge_puts : (v : SeenVersion) (made : IsMergedInto job old.history.latest.version v) → Puts mid v (merge_of job made.run) (Install old.seqno ∷ []) []
+  merge_puts : (v : SeenVersion) (made : IsMergedInto old.next_table job old.history.latest.version v) → Puts mid v (merge_of job made.run) (Install old.seqno ∷ []) []
   merge_puts v made = record {
     certain = certain;
     named = kept.ids.older;
@@ -321,10 +321,10 @@ module _ (law : MergesOfInputsAreSteps) (job : SeenCompaction) (old : Core) (kep
     step = λ opened journal. law opened job.settings.watermark old.seqno job.settings.dest_level job.ids (evicts job.settings) (tables_of job.inputs) made.run (state_of journal old) (levels_of old) v.levels refl made.allowed made.covers made.placed made.laid made.same made.holds.keeps;
   }
 
-  done_behind : (v : SeenVersion) (made : IsMergedInto job old.history.latest.version v) (whole : Bool) (new : Core) → IsInstalled v job.settings.watermark whole mid new → IsMergeDeed job old new
+  done_behind : (v : SeenVersion) (made : IsMergedInto old.next_table job old.history.latest.version v) (whole : Bool) (new : Core) → IsInstalled v job.settings.watermark whole mid new → IsMergeDeed job old new
   done_behind v made whole new is = (made.run, λ opened journal notes order marks. behind mid v (merge_of job made.run) (Install old.seqno ∷ []) [] (merge_puts v made) job.settings.watermark whole new is opened journal notes marks)
 
-  lost_behind : (v : SeenVersion) (made : IsMergedInto job old.history.latest.version v) (new : Core) → IsDoubted v mid new → IsLostMerge job old new
+  lost_behind : (v : SeenVersion) (made : IsMergedInto old.next_table job old.history.latest.version v) (new : Core) → IsDoubted v mid new → IsLostMerge job old new
   lost_behind v made new is = (
     made.run,
     committed (next_in mid v) mid,
@@ -351,7 +351,7 @@ module _ (law : MergesOfInputsAreSteps) (job : SeenCompaction) (r : Result Finis
   }
     where
       one : Outcome r (IsMergeDeed job old new) (IsLostMerge job old new) (IsNoDeed old new)
-      one = outcome r (IsMergedInto job old.history.latest.version) job.settings.watermark (with_next_table made.table (closed job.number old)) new made.settles made.only (IsMergeDeed job old new) (IsLostMerge job old new) (IsNoDeed old new)
+      one = outcome r (IsMergedInto old.next_table job old.history.latest.version) job.settings.watermark (with_next_table made.table (closed job.number old)) new made.settles made.only (IsMergeDeed job old new) (IsLostMerge job old new) (IsNoDeed old new)
           (λ v is whole done. done_behind law job old kept certain made.table v is whole new done) (λ v is lost. lost_behind law job old kept certain made.table v is new lost) (λ same opened journal notes. same journal notes)
 
       told_of : (x : Result Finished Error) → IfOk x (λ f. f ≡ Ended) → IfOk x (λ f. (f ≡ Ended → ⊥) → IsNoDeed old new)

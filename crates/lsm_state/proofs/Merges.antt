@@ -1,5 +1,5 @@
 -- The tables that a merge made, and the version that has them in place of its inputs.
-use Rattle.std.proofs.Common.{◌≡◌, ℕ, ◌+◌, ◌<◌, ◌≤◌, ◌^◌, Bool, true, false, List, [], ◌∷◌, ◌++◌, map, length, zero, suc, eqb, eq-eqb, ⊎_elim, ◌⊎◌, inl, inr, ◌||◌, Err, IsErrOf, refl, sym, ap, ◌∙◌, subst, arith}
+use Rattle.std.proofs.Common.{◌≡◌, ℕ, ◌+◌, ◌<◌, ◌≤◌, ◌^◌, Bool, true, false, List, [], ◌∷◌, ◌++◌, map, length, zero, suc, eqb, eq-eqb, ⊎_elim, ◌⊎◌, inl, inr, ◌||◌, Ok, Err, IsErrOf, refl, sym, ap, ◌∙◌, subst, arith}
 use Rattle.std.specs.Prelude.{nat_eq}
 use Rattle.std.specs.List.{AllByRecursion, IsDistinct, list_any, range_with_len}
 use Rattle.std.specs.List.Sorted.{IsPermutation}
@@ -74,7 +74,7 @@ module _ (job : SeenCompaction) (contents : List (List ℕ)) (ids : List ℕ) (t
     own_tables : HasOwnIds tables
     own_tables = subst (IsDistinct nat_eq) (sym ids_are) (own_range c.next_table (length contents))
 
-    above : AllByRecursion (λ t. c.next_table ≤ t.id) tables
+    pub above : AllByRecursion (λ t. c.next_table ≤ t.id) tables
     above = of_ids (λ i. c.next_table ≤ i) tables (subst (AllByRecursion (λ i. c.next_table ≤ i)) (sym ids_are) (from_range c.next_table (length contents)))
 
     own_with : (ts : List SeenTable) → HasOwnIds ts → AllByRecursion (λ t. c.next_table ≤ t.id) ts → AllByRecursion (λ t. t.id < 2 ^ 63) ts → HasOwnIds (ts ++ before)
@@ -138,8 +138,8 @@ new_beside c job tables made =
     own_apart tables (all_of (levels_of c)) (own_first tables before made.own_ids) (own_behind (written_of c) (all_of (levels_of c)) (own_behind tables before made.own_ids))
     (each_right (IsApart tables) (written_of c) (all_of (levels_of c)) (parts_apart tables before made.own_ids))
 
-pub merged_into : (c : Core) (job : SeenCompaction) → MayMerge job c → (tables : List SeenTable) → AreMerged job c tables → (v : SeenVersion) → MakesFor job c tables v → IsLaidOut (placed_of v.levels) → HasOwnIds (all_of v.levels) → IsMergedInto job c.history.latest.version v
-merged_into c job may tables merged v makes laid own = record { run = tables; holds = merged.holds; next = makes.next; allowed = may.allowed; same = may.same; covers = makes.covers; placed = makes.placed; laid = laid; own_ids = own }
+pub merged_into : (c : Core) (job : SeenCompaction) → MayMerge job c → (tables : List SeenTable) → AreMerged job c tables → (v : SeenVersion) → MakesFor job c tables v → IsLaidOut (placed_of v.levels) → HasOwnIds (all_of v.levels) → (first : ℕ) → AllByRecursion (λ t. first ≤ t.id) tables → IsMergedInto first job c.history.latest.version v
+merged_into c job may tables merged v makes laid own first fresh = record { run = tables; holds = merged.holds; fresh = fresh; next = makes.next; allowed = may.allowed; same = may.same; covers = makes.covers; placed = makes.placed; laid = laid; own_ids = own }
 
 module _ (c : Core) (kept : IsKeptTree c) (law : ChangesKeepTables) (job : SeenCompaction) (is_job : IsJob job) (may : MayMerge job c) (tables : List SeenTable) (made : AreMerged job c tables) (v : SeenVersion) (makes : MakesFor job c tables v) (own : HasOwnIds (all_of v.levels)) where
   abbrev now : List SeenTable
@@ -190,6 +190,27 @@ unnumbered job old draws great = record {
   too_many_runs = λ h. cc h;
   numbered = λ h. cc h;
   only = inr (inl refl);
+}
+
+-- it was installed, and all was cleaned up
+pub settled : {T : Type 0} {x : T} (job : SeenCompaction) (old new mid : Core) (v : SeenVersion) → old.next_table ≤ mid.next_table → DrawsFor job old.next_table mid.next_table → mid ≡ with_next_table mid.next_table old → IsMergedInto old.next_table job old.history.latest.version v
+    → IsInstalled v job.settings.watermark true mid new → InstallsMerge {T = T} job (Ok x) old new
+settled job old new mid v rises draws is made installed = record {
+  table = mid.next_table;
+  rises = rises;
+  draws = draws;
+  settles = record {
+    ok = (v, made, subst (λ (k : Core). IsInstalled v job.settings.watermark true k new) is installed);
+    after = λ h. cc h;
+    unknown = λ h. cc h;
+    before = ⊎_elim (λ h. cc h) (λ h. cc h);
+    store = λ h. cc h;
+    memory = λ h. cc h;
+  };
+  out_of_numbers = λ h. cc h;
+  too_many_runs = λ h. cc h;
+  numbered = λ h. cc h;
+  only = tt;
 }
 
 module _ {T : Type 0} (job : SeenCompaction) (e : Error) (old new : Core) where
@@ -249,7 +270,7 @@ module _ {T : Type 0} (job : SeenCompaction) (e : Error) (old new : Core) where
       kind _ r = absurd r
 
   -- it wasn't installed, or not wholly
-  pub unsettled : (mid : Core) (v : SeenVersion) → old.next_table ≤ mid.next_table → DrawsFor job old.next_table mid.next_table → mid ≡ with_next_table mid.next_table old → IsMergedInto job old.history.latest.version v → Settles v job.settings.watermark (Err e) mid new → InstallsMerge {T = T} job (Err e) old new
+  pub unsettled : (mid : Core) (v : SeenVersion) → old.next_table ≤ mid.next_table → DrawsFor job old.next_table mid.next_table → mid ≡ with_next_table mid.next_table old → IsMergedInto old.next_table job old.history.latest.version v → Settles v job.settings.watermark (Err e) mid new → InstallsMerge {T = T} job (Err e) old new
   unsettled mid v rises draws is made s = record {
     table = mid.next_table;
     rises = rises;

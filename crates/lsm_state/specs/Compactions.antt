@@ -193,10 +193,12 @@ pub record HoldsMerged (job : SeenCompaction) (run : List SeenTable) : Type 0 wh
   pub cut : IsCutting job.settings.target_size (run_entries run) (map (λ t. t.entries) run)
   pub made : AllByRecursion (λ t. t.created_at ≡ job.settings.made_at) run
 
--- the version that a merge makes: a run with what is kept stands in place of its inputs, which are still there
-pub record IsMergedInto (job : SeenCompaction) (latest made : SeenVersion) : Type 0 where
+-- the version that a merge makes: a run with what is kept, of tables with ids from this one on, stands in place of its inputs, which are
+-- still there
+pub record IsMergedInto (first : ℕ) (job : SeenCompaction) (latest made : SeenVersion) : Type 0 where
   pub run : List SeenTable
   pub holds : HoldsMerged job run
+  pub fresh : AllByRecursion (λ t. first ≤ t.id) run
   pub next : IsNext job.ids run job.settings.dest_level 0 latest made
   pub allowed : IsAllowed job.settings.dest_level (among job.ids) (evicts job.settings) (placed_of latest.levels)
   pub same : HoldSame (tables_of job.inputs) job.ids latest.levels
@@ -234,7 +236,7 @@ pub record InstallsMerge {T : Type 0} (job : SeenCompaction) (r : Result T Error
   pub table : ℕ
   pub rises : old.next_table ≤ table
   pub draws : DrawsFor job old.next_table table
-  pub settles : SettlesSome (IsMergedInto job old.history.latest.version) job.settings.watermark r (with_next_table table old) new
+  pub settles : SettlesSome (IsMergedInto old.next_table job old.history.latest.version) job.settings.watermark r (with_next_table table old) new
   pub out_of_numbers : IsErrOf r OutOfNumbers → (2 ^ 63 ≤ old.seqno) ⊎ ((2 ^ 63 ≤ table) ⊎ (old.history.latest.version.id ≡ 2 ^ 64 - 1))
   pub too_many_runs : IsErrOf r TooManyRuns → IsTooFull job old.history.latest.version
   -- a counter without a number is told before

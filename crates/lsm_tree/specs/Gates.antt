@@ -14,7 +14,7 @@ use Rattle.lsm_state.specs.WholeCompactions.{options_at, told_end}
 use Rattle.lsm_recorded.specs.Flushing.{SpendsUnnoted}
 use Rattle.lsm_recorded.specs.Compacting.{BeginsRecorded, FinishesRecorded}
 use Rattle.lsm_logged.specs.Asking.{Asks}
-use Rattle.lsm_tree.specs.Shared.{OnSomeTree, OnSomeRecorded, OnSomeLogged, TouchesTreeAlone}
+use Rattle.lsm_tree.specs.Shared.{OnSomeTree, OnSomeTreeAlone, OnSomeRecorded, OnSomeLogged, TouchesTreeAlone}
 
 -- it is never a job
 abbrev pub IsNoJob : Result Begun Error → Type 0
@@ -23,28 +23,28 @@ IsNoJob r = (job : SeenCompaction) → r ≡ Ok (Job job) → ⊥
 -- ---- a tree
 
 -- a merge that a gate did is finished, and one that it gave back for want of memory is spent
-abbrev pub EndsGated : SeenCompaction → Result Begun Error → Type 0
-EndsGated job r =
-    ((r ≡ Err OutOfMemory) × OnSomeTree (λ old new. Spends job old new))
+abbrev pub EndsGated : (S : Type 0) → SeenCompaction → Result Begun Error → Type 0
+EndsGated S job r =
+    ((r ≡ Err OutOfMemory) × OnSomeTreeAlone S (λ old new. Spends job old new))
     ⊎ ((end : Result Finished Error) × (r ≡ told_end end) × OnSomeTree (λ old new. Finishes job end old new))
 
 -- what follows of how a compaction began: the end of a merge, and of all else nothing
-abbrev pub FollowsGated : Result Begun Error → Result Begun Error → Type 0
-FollowsGated (Ok (Job job)) r = EndsGated job r
-FollowsGated begun r = r ≡ begun
+abbrev pub FollowsGated : (S : Type 0) → Result Begun Error → Result Begun Error → Type 0
+FollowsGated S (Ok (Job job)) r = EndsGated S job r
+FollowsGated S begun r = r ≡ begun
 
 -- a compaction at a watermark and at the moment of the tree that it begins on
-pub record CompactsGated (may_choose : Relation Choice) (may_refuse : Relation ChooseError) (w : ℕ) (r : Result Begun Error) : Type 0 where
+pub record CompactsGated (S : Type 0) (may_choose : Relation Choice) (may_refuse : Relation ChooseError) (w : ℕ) (r : Result Begun Error) : Type 0 where
   pub begun : Result Begun Error
   pub begins : OnSomeTree (λ old new. BeginsCompaction may_choose may_refuse (options_at w old) begun old new)
-  pub follows : FollowsGated begun r
+  pub follows : FollowsGated S begun r
 
 -- ---- a tree with its journal
 
 -- the same, with what it puts into the pass
 abbrev pub EndsGatedRecorded : (S : Type 0) → SeenCompaction → Result Begun Error → List (ℕ × JournalEntry) → List (ℕ × JournalEntry) → Type 0
 EndsGatedRecorded S job r pass pass' =
-    ((r ≡ Err OutOfMemory) × (pass' ≡ pass) × OnSomeTree (λ old new. Spends job old new))
+    ((r ≡ Err OutOfMemory) × (pass' ≡ pass) × OnSomeTreeAlone S (λ old new. Spends job old new))
     ⊎ ((end : Result Finished Error) × (r ≡ told_end end) × OnSomeRecorded S (λ old new. SpendsUnnoted (Spends job) end old new pass pass' ⊎ FinishesRecorded job end old new pass pass'))
 
 abbrev pub FollowsGatedRecorded : (S : Type 0) → Result Begun Error → Result Begun Error → List (ℕ × JournalEntry) → List (ℕ × JournalEntry) → Type 0

@@ -8,7 +8,7 @@ ghost use Rattle.lsm_versions.specs.Levels.{Levels as SeenLevels, all_of, placed
 ghost use Rattle.lsm_manifest.specs.Kinds.{is_orphan};
 ghost use Rattle.lsm_manifest.specs.Spelling.{ids_of};
 ghost use Rattle.lsm_manifest.specs.Recovery.{Levels, IsNamed, CountsStore};
-ghost use Rattle.lsm_manifest.specs.Clearing.{IsCleared};
+ghost use Rattle.lsm_manifest.specs.Clearing.{IsCleared, Removes};
 ghost use Rattle.lsm_manifest.specs.Standing.{HasSmallNumbers, StandsFor};
 ghost use Rattle.lsm_manifest.specs.Pinned.{IsPinned};
 ghost use Rattle.lsm_manifest.specs.Names.{current_name};
@@ -62,6 +62,8 @@ impl<S: Store> Recorded<S> {
         ensures unordered { S.tells → (id : ℕ) (ls : Levels) (ts : SeenLevels) → StandsFor (S.world store).gives id ls ts → HasSmallNumbers ts → (TablesAreInOrder ts → ⊥) → Told TellsOpen IsUnrecoverable (files_told result) }
         // Without `current`, a new tree.
         ensures new { S.tells → (S.world store).gives (codes "version") ≡ None → (S.world store).gives current_name ≡ None → Told TellsOpen (OpensNew (S.world store) (S.world (store_left result))) (files_told result) }
+        // Opened, the orphans are gone, and nothing else has changed.
+        ensures removes { S.tells → (id : ℕ) (ls : Levels) → IsNamed (S.world store).gives id ls → IfOk result (λ t. Removes (is_orphan id (ids_of ls)) (S.world store) (S.world t.tree.store)) }
         // A crash in it takes orphans alone.
         ensures any_moment { S.tells → (id : ℕ) (ls : Levels) → IsNamed (S.world store).gives id ls → LeavesOnly (S.world store) (S.world (store_left result)) (IsCleared (is_orphan id (ids_of ls)) (S.world store)) }
         // Where the names that stand have one possible content each, every image meanwhile stands for the same tables.

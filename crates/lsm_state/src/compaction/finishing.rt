@@ -1,5 +1,5 @@
 // How a merge ends.
-ghost use Rattle.std.specs.Prelude.{◌≡◌, ◌≤◌, ◌<◌, ◌⊎◌, ◌↔◌, ◌+◌, true, false, None, length, IsSome, IsTrue, Ok, IfOk, IfErr, OnOk, IsErrOf};
+ghost use Rattle.std.specs.Prelude.{ℕ, ◌≡◌, ◌≤◌, ◌<◌, ◌⊎◌, ◌↔◌, ◌+◌, true, false, None, length, IsSome, IsTrue, Ok, IfOk, IfErr, OnOk, IsErrOf};
 ghost use Rattle.std.specs.List.{range_with_len, AllByRecursion};
 ghost use Rattle.lsm_below.specs.Optimizes.{tables_of};
 ghost use Rattle.lsm_checks.specs.Choices.{EndsAs};
@@ -94,6 +94,7 @@ impl<S: Store> TreeState<S> {
     fn write_merged(&mut self, merged: &MergedCompaction) -> Result<Vec<Table>, Error>
         requires certain { self.old.core.lost ≡ None }
         ensures merged { IfOk result (λ tables. AreMerged merged.now.job self.new.core tables.items) }
+        ensures fresh { IfOk result (λ tables. AllByRecursion (λ t. self.old.core.next_table ≤ t.id) tables.items) }
         ensures rises { self.old.core.next_table ≤ self.new.core.next_table }
         ensures draws { DrawsFor merged.now.job self.old.core.next_table self.new.core.next_table }
         ensures core { self.new.core ≡ with_next_table self.new.core.next_table self.old.core }
@@ -117,7 +118,7 @@ impl<S: Store> TreeState<S> {
     fn version_merged(&self, job: &CompactionJob, tables: &[Table]) -> Result<Version, Error>
         requires may { MayMerge job.now self.now.core }
         requires merged { AreMerged job.now self.now.core tables.now }
-        ensures made { IfOk result (IsMergedInto job.now self.now.core.history.latest.version) }
+        ensures made { IfOk result (λ v. (first : ℕ) → AllByRecursion (λ t. first ≤ t.id) tables.now → IsMergedInto first job.now self.now.core.history.latest.version v) }
         ensures settles { IfOk result (λ v. MaySettle v job.now.ids self.now.core) }
         ensures on_disk { S.tells → AreOnDisk (S.world self.now.store) tables.now → IfOk result (HasItsTables (S.world self.now.store) self.now.core) }
         ensures err { IfErr result (IsRefusedFor job.now.ids tables.now job.now.settings.dest_level self.now.core.history.latest.version) }

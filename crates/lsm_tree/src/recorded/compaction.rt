@@ -6,7 +6,7 @@ ghost use Rattle.lsm_state.specs.Compactions.{Spends};
 ghost use Rattle.lsm_state.specs.WholeCompactions.{options_at, only_memory, major_choice};
 ghost use Rattle.lsm_recorded.specs.Flushing.{SpendsUnnoted};
 ghost use Rattle.lsm_recorded.specs.Compacting.{BeginsRecorded, FinishesRecorded, CompactsRecorded, DropsRecorded};
-ghost use Rattle.lsm_tree.specs.Shared.{OnSomeTree, OnSomeStore, AtSomeTree, OnSomeRecorded};
+ghost use Rattle.lsm_tree.specs.Shared.{OnSomeTreeAlone, OnSomeStore, AtSomeTree, OnSomeRecorded};
 ghost use Rattle.lsm_tree.specs.Gates.{IsNoJob, EndsGatedRecorded, CompactsGatedRecorded};
 
 use crate::gate::{Gate, told_end};
@@ -59,7 +59,7 @@ impl<S: Store> Handle<Recorded<S>> {
 
     /// Gives up a merge, as `Recorded::abandon_compaction`.
     pub fn abandon_compaction(&self, rt: &impl Wait, pass: &mut Pass, job: CompactionJob)
-        ensures spends { OnSomeTree (λ old new. Spends job old new) }
+        ensures spends { OnSomeTreeAlone S (λ old new. Spends job old new) }
         ensures pass { pass.new ≡ pass.old }
     {
         act!(self, rt, |tree| tree.abandon_compaction(pass, job))

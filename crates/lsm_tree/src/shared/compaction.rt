@@ -4,7 +4,7 @@ ghost use Rattle.lsm_compaction.specs.OpenMerges.{hides};
 ghost use Rattle.lsm_commit.specs.Causes.{HasCause, Blames};
 ghost use Rattle.lsm_state.specs.Compactions.{BeginsChoice, BeginsCompaction, Finishes, Spends};
 ghost use Rattle.lsm_state.specs.WholeCompactions.{Compacts, DropsRange, options_at, only_memory, major_choice};
-ghost use Rattle.lsm_tree.specs.Shared.{OnSomeTree, OnSomeStore, AtSomeTree};
+ghost use Rattle.lsm_tree.specs.Shared.{OnSomeTree, OnSomeTreeAlone, OnSomeStore, AtSomeTree};
 ghost use Rattle.lsm_tree.specs.Gates.{IsNoJob, EndsGated, CompactsGated};
 
 use crate::gate::{Gate, told_end};
@@ -75,7 +75,7 @@ impl<S: Store> Handle<TreeState<S>> {
 
     /// Gives up a merge, as `TreeState::abandon_compaction`.
     pub fn abandon_compaction(&self, rt: &impl Wait, job: CompactionJob)
-        ensures { OnSomeTree (λ old new. Spends job old new) }
+        ensures { OnSomeTreeAlone S (λ old new. Spends job old new) }
     {
         act!(self, rt, |tree| tree.abandon_compaction(job))
     }
@@ -137,8 +137,8 @@ impl<S: Store> Handle<TreeState<S>> {
         passed: Result<MergedCompaction, (Error, CompactionJob)>,
     ) -> Result<Begun, Error>
         requires { IfErr passed (λ e. e.0 ≡ Error.OutOfMemory) }
-        ensures done { IfOk passed (λ m. EndsGated m.job result) }
-        ensures back { IfErr passed (λ e. EndsGated e.1 result) }
+        ensures done { IfOk passed (λ m. EndsGated S m.job result) }
+        ensures back { IfErr passed (λ e. EndsGated S e.1 result) }
         ensures causes { IfOk passed (λ _. OnSomeStore S (λ old new. HasCause (Blames result) (S.world old) (S.world new))) }
         ensures given_up { IfErr passed (λ _. result ≡ Err Error.OutOfMemory) }
         ensures no_job { IsNoJob result }
@@ -174,7 +174,7 @@ impl<S: Store> Handle<TreeState<S>> {
         watermark: SeqNo,
         gate: &impl Gate,
     ) -> Result<Begun, Error>
-        ensures gated { CompactsGated (may_choose strategy.now) (may_refuse strategy.now) watermark result }
+        ensures gated { CompactsGated S (may_choose strategy.now) (may_refuse strategy.now) watermark result }
         // The store is blamed only where a call of it failed.
         ensures causes { OnSomeStore S (λ old new. HasCause (Blames result) (S.world old) (S.world new)) }
         ensures no_job { IsNoJob result }

@@ -4,7 +4,7 @@ use Rattle.lsm_logged.specs.Keeping.{SeenLogged}
 use Rattle.lsm_logged.proofs.Compacted.{answered_acts, unsure_acts}
 use Rattle.lsm_logged.proofs.WholeActs.{compacts_outcome}
 use Rattle.lsm_logged.proofs.Reopening.{numbered_more}
-use Rattle.lsm_logged.proofs.Seen.{logged_with, leaves_seen, refused_seen}
+use Rattle.lsm_logged.proofs.Seen.{logged_with, leaves_seen, refused_seen, rests_seen}
 use Rattle.lsm_logged.proofs.Rising.{compacts}
 use Rattle.lsm_logged.proofs.logged.Logged.compact.Goals as goal
 
@@ -35,3 +35,6 @@ returns-clause-refused g c tells =
     let i = c.self.inside in
     let new = c.compact.new.self in
     refused_seen g.S.Store.world c.compact.result _ _ (logged_with new i.numbers.items i.doubted) c.self.view_is (c.compact.ensures.refused tells)
+
+pub returns-clause-rests : goal.returns-clause-rests
+returns-clause-rests g c = rests_seen c.compact.result _ _ c.compact.new.self.store c.self.view_is c.compact.ensures.rests

@@ -4,7 +4,7 @@ use Rattle.lsm_logged.proofs.Compacted.{answered_acts, unsure_acts}
 use Rattle.lsm_logged.proofs.WholeActs.{compacts_choice_outcome}
 use Rattle.lsm_logged.proofs.Reopening.{numbered_more}
 use Rattle.lsm_logged.proofs.Rising.{compacts_choice}
-use Rattle.lsm_logged.proofs.Seen.{logged_with, refused_seen}
+use Rattle.lsm_logged.proofs.Seen.{logged_with, refused_seen, rests_seen}
 use Rattle.lsm_logged.proofs.logged.Logged.compact_choice.Goals as goal
 
 pub invariant_of-self : goal.invariant_of-self
@@ -30,3 +30,6 @@ returns-clause-refused g c tells =
     let i = c.self.inside in
     let new = c.compact_choice.new.self in
     refused_seen g.S.Store.world c.compact_choice.result _ _ (logged_with new i.numbers.items i.doubted) c.self.view_is (c.compact_choice.ensures.refused tells)
+
+pub returns-clause-rests : goal.returns-clause-rests
+returns-clause-rests g c = rests_seen c.compact_choice.result _ _ c.compact_choice.new.self.store c.self.view_is c.compact_choice.ensures.rests

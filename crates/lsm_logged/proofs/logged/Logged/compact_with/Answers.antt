@@ -3,7 +3,7 @@ use Rattle.lsm_logged.specs.Keeping.{SeenLogged}
 use Rattle.lsm_logged.proofs.Compacted.{answered_acts, unsure_acts}
 use Rattle.lsm_logged.proofs.WholeActs.{compacts_outcome}
 use Rattle.lsm_logged.proofs.Reopening.{numbered_more}
-use Rattle.lsm_logged.proofs.Seen.{logged_with, leaves_seen, refused_seen}
+use Rattle.lsm_logged.proofs.Seen.{logged_with, leaves_seen, refused_seen, rests_seen}
 use Rattle.lsm_logged.proofs.Rising.{compacts}
 use Rattle.lsm_logged.proofs.logged.Logged.compact_with.Goals as goal
 
@@ -34,3 +34,6 @@ returns-clause-refused g c tells =
     let i = c.self.inside in
     let new = c.compact_with.new.self in
     refused_seen g.S.Store.world c.compact_with.result _ _ (logged_with new i.numbers.items i.doubted) c.self.view_is (c.compact_with.ensures.refused tells)
+
+pub returns-clause-rests : goal.returns-clause-rests
+returns-clause-rests g c = rests_seen c.compact_with.result _ _ c.compact_with.new.self.store c.self.view_is c.compact_with.ensures.rests

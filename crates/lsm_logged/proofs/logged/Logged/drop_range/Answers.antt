@@ -6,7 +6,7 @@ use Rattle.lsm_logged.proofs.Compacted.{answers_act, unsure_acts}
 use Rattle.lsm_logged.proofs.WholeActs.{dropping_only, drops_outcome}
 use Rattle.lsm_logged.proofs.Reopening.{numbered_more}
 use Rattle.lsm_logged.proofs.Rising.{drops_range}
-use Rattle.lsm_logged.proofs.Seen.{logged_with, leaves_seen, refused_seen}
+use Rattle.lsm_logged.proofs.Seen.{logged_with, leaves_seen, refused_seen, rests_seen}
 use Rattle.lsm_logged.proofs.logged.Logged.drop_range.Goals as goal
 
 pub invariant_of-self : goal.invariant_of-self
@@ -36,3 +36,6 @@ returns-clause-refused g c tells =
     let i = c.self.inside in
     let new = c.drop_range.new.self in
     refused_seen g.S.Store.world c.drop_range.result _ _ (logged_with new i.numbers.items i.doubted) c.self.view_is (c.drop_range.ensures.refused tells)
+
+pub returns-clause-rests : goal.returns-clause-rests
+returns-clause-rests g c = rests_seen c.drop_range.result _ _ c.drop_range.new.self.store c.self.view_is c.drop_range.ensures.rests

@@ -3,7 +3,7 @@ use Rattle.lsm_logged.specs.Keeping.{SeenLogged}
 use Rattle.lsm_logged.proofs.FinishActs.{merge_acts, unsure_merge}
 use Rattle.lsm_logged.proofs.Reopening.{numbered_more}
 use Rattle.lsm_logged.proofs.Rising.{finishes}
-use Rattle.lsm_logged.proofs.Seen.{logged_with, refused_seen}
+use Rattle.lsm_logged.proofs.Seen.{logged_with, refused_seen, end_rests_seen}
 use Rattle.lsm_logged.proofs.logged.Logged.finish_compaction.Goals as goal
 
 pub invariant_of-self : goal.invariant_of-self
@@ -37,3 +37,6 @@ returns-clause-refused g c tells =
     let i = c.self.inside in
     let new = c.finish_compaction.new.self in
     refused_seen g.S.Store.world c.finish_compaction.result _ _ (logged_with new i.numbers.items i.doubted) c.self.view_is (c.finish_compaction.ensures.refused tells)
+
+pub returns-clause-rests : goal.returns-clause-rests
+returns-clause-rests g c = end_rests_seen c.finish_compaction.result _ _ c.finish_compaction.new.self.store c.self.view_is c.finish_compaction.ensures.rests

@@ -141,3 +141,6 @@ returns-in-Some-clause-gone g c tells cleaned =
     let mid = c.flush.new.self in
     let left = subst (λ (x : Option (ℕ × Registered)). IfSome x (λ p. p.1.cleaned ≡ true → LeavesNoFiles (w mid.store) [] i.tree.core.history mid.core.history)) c.in-Some.is (c.in_ok-flushed.ensures.gone tells) in
     gone_behind w i.tree mid i.numbers.items i.doubted c.clean_log.new.self c.args.self.now c.self.view_is c.clean_log.ensures.cleans.core (c.clean_log.ensures.others tells) (left (c.clean_log.ensures.cleans.cleaned cleaned))
+
+pub returns-in-None-clause-rests : goal.returns-in-None-clause-rests
+returns-in-None-clause-rests g c none = c.in_ok-flushed.ensures.rests c.in-None.is ∙ ap (λ (t : SeenLogged g.row.S.Denot). t.store) c.self.view_is

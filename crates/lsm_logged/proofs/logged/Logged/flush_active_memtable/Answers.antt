@@ -1,4 +1,4 @@
-use Rattle.std.proofs.Common.{◌≡◌, ℕ, ◌<◌, ◌^◌, true, List, None, IfSome, Ok, Err, inr, refl, sym, ap, subst}
+use Rattle.std.proofs.Common.{◌≡◌, ℕ, ◌<◌, ◌^◌, true, List, None, IfSome, Ok, Err, ⊎_elim, inl, inr, refl, sym, ap, subst}
 use Rattle.lsm_below.specs.declared.error.Error.TheVariants.{CommitUnknown}
 use Rattle.lsm_commit.specs.Foreign.{AtRest}
 use Rattle.lsm_state.specs.Cleaning.{RemovesDrawn, none_drawn}
@@ -29,6 +29,15 @@ returns-in-Ok-flush-clause-behind g c tells =
 pub returns-in-Ok-flush-clause-upholds : goal.returns-in-Ok-flush-clause-upholds
 returns-in-Ok-flush-clause-upholds g c tells =
     upheld_rotated g.S.Store.world c.args.self.now c.rotate_memtable.new.self c.flush.new.self c.in-Ok.sealed c.in-Ok.ensures.ok c.in-Ok.ensures.store (c.flush.ensures.upholds tells)
+
+pub returns-in-Err-clause-flushes : goal.returns-in-Err-clause-flushes
+returns-in-Err-clause-flushes g c =
+    let e = c.in-Err.ensures in
+    let only = ⊎_elim (λ h. inr h) (λ h. inl h) e.only in
+    record {
+      ok = tt;
+      err = inl (record { none = refl; unchanged = ap (λ (t : SeenLogged g.row.S.Denot). t.core) e.err; only = only; out_of_numbers = λ h. e.out_of_numbers (ap Err h) }, e.err);
+    }
 
 pub returns-in-Err-flush-clause-flushes : goal.returns-in-Err-flush-clause-flushes
 returns-in-Err-flush-clause-flushes g c = record {

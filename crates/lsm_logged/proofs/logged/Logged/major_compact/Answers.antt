@@ -6,7 +6,7 @@ use Rattle.lsm_logged.proofs.Compacted.{answers_act, unsure_acts}
 use Rattle.lsm_logged.proofs.WholeActs.{merging_only, major_outcome}
 use Rattle.lsm_logged.proofs.Reopening.{numbered_more}
 use Rattle.lsm_logged.proofs.Rising.{compacts}
-use Rattle.lsm_logged.proofs.Seen.{logged_with, leaves_seen, refused_seen}
+use Rattle.lsm_logged.proofs.Seen.{logged_with, leaves_seen, refused_seen, rests_seen}
 use Rattle.lsm_logged.proofs.logged.Logged.major_compact.Goals as goal
 
 pub invariant_of-self : goal.invariant_of-self
@@ -36,3 +36,6 @@ returns-clause-refused g c tells =
     let i = c.self.inside in
     let new = c.major_compact.new.self in
     refused_seen g.S.Store.world c.major_compact.result _ _ (logged_with new i.numbers.items i.doubted) c.self.view_is (c.major_compact.ensures.refused tells)
+
+pub returns-clause-rests : goal.returns-clause-rests
+returns-clause-rests g c = rests_seen c.major_compact.result _ _ c.major_compact.new.self.store c.self.view_is c.major_compact.ensures.rests

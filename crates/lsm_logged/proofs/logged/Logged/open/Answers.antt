@@ -10,6 +10,7 @@ use Rattle.lsm_versions.specs.Levels.{SeenVersion, placed_of}
 use Rattle.lsm_manifest.specs.declared.found.Found.{Found}
 use Rattle.lsm_manifest.specs.declared.opening.Opened.{Opened}
 use Rattle.lsm_manifest.specs.Looking.{Looks}
+use Rattle.lsm_manifest.specs.Spelling.{ids_of}
 use Rattle.lsm_manifest.specs.Told.{told_counts}
 use Rattle.lsm_commit.specs.Foreign.{Passes}
 use Rattle.lsm_log.specs.LogNames.{record_name}
@@ -21,6 +22,7 @@ use Rattle.lsm_log_model.specs.Records.{LogStands}
 use Rattle.lsm_logged.specs.Keeping.{AreRecordNumbers}
 use Rattle.lsm_logged.specs.Opening.{Files, Memory, Faulty, BadLog, image_read, TakesLog, IsNextTable, CanBeSettled, IsReopenedLog}
 use Rattle.lsm_logged.proofs.Blaming.{none_counted, one_failed, counted_behind, none_behind}
+use Rattle.lsm_logged.proofs.Gone.{orphan_apart}
 use Rattle.lsm_logged.proofs.LogNames.{record_is_foreign}
 use Rattle.lsm_logged.proofs.Meanwhile.{nothing_moment, looks_read, files_left, records_left}
 use Rattle.lsm_logged.proofs.Replaying.{log_read, none_lacks, small_numbers}
@@ -127,6 +129,15 @@ returns-in-Ok-take_log-clause-opens g c =
           (is_read_in (w store) (w mid) v.log_from (c.openings_settle.ensures store mid _ (c.in_ok-tree.ensures.opens tells store (looks tells))) can) new numbers);
       stored = λ tells ready. (c.in-Ok-take_log.ensures.upholds tells (c.in_ok-tree.ensures.stored tells store (looks tells) ready)).0;
     }
+
+pub returns-in-Ok-take_log-clause-removes : goal.returns-in-Ok-take_log-clause-removes
+returns-in-Ok-take_log-clause-removes g c tells id ls named n orphan =
+    let w = g.S.Store.world in
+    let store = c.args.store in
+    let found = c.in_ok-found.found in
+    let found' = c.check_numbered.new.found in
+    let looks = looks_on (w store) (w found.store) (w found'.store) found.files found'.files (c.in_ok-found.ensures.found tells) (c.in-Ok.ensures.same tells) c.in-Ok.ensures.files in
+    c.in-Ok-take_log.ensures.others tells n (orphan_apart id (ids_of ls) n c.in-Ok.checked.log.passed.items orphan) ∙ ((c.in_ok-tree.ensures.opens tells store looks).removes id ls named).gone n orphan
 
 -- ---- which calls failed
 

@@ -177,6 +177,9 @@ returns-clause-unordered g c tells id ls ts stands small others =
     let marked = subst (λ (v : SeenVersion). IsMarked m.marks m.least (held (placed_of v.levels))) c.version.ensures (subst (λ told. MatchOption told (TablesAreInOrder c.version.result.now.levels → ⊥) (IsOpenedWith c.version.result.now)) c.in-Ok-Some.field-0-is c.in-Ok-Some.ensures).0 in
     others (subst TablesAreInOrder (c.in_ok-found.ensures.stands tells id ls ts stands small).1 marked.in_order)
 
+pub returns-clause-removes : goal.returns-clause-removes
+returns-clause-removes g c tells id ls named = (c.in_ok-core.ensures.opens tells c.args.store (c.in_ok-found.ensures.found tells)).removes id ls named
+
 pub returns-clause-any_moment : goal.returns-clause-any_moment
 returns-clause-any_moment g c tells id ls named =
     (c.in_ok-core.ensures.leaves tells c.args.store (c.in_ok-found.ensures.found tells)).any_moment id ls named

@@ -1,11 +1,13 @@
-use Rattle.std.proofs.Common.{Err, sym, ap, ◌∙◌, subst, ◌<◌, ◌^◌, rules, arith}
+use Rattle.std.proofs.Common.{Ok, Err, sym, ap, ◌∙◌, subst, ◌<◌, ◌≤◌, ◌^◌, rules, arith}
+use Rattle.std.specs.List.{AllByRecursion}
+use Rattle.lsm_tables.specs.Tables.{SeenTable}
 use Rattle.lsm_versions.specs.Refusals.{IsRefusedFor}
 use Rattle.lsm_commit.specs.Stored.{AreOnDisk}
 use Rattle.lsm_state.specs.Core.{versions_left}
 use Rattle.lsm_state.specs.Settling.{Settles}
 use Rattle.lsm_state.specs.Compactions.{IsMergedInto}
 use Rattle.lsm_state.proofs.WholeFlushes.{upholds_behind}
-use Rattle.lsm_state.proofs.Merges.{unwritten, unmade, unsettled}
+use Rattle.lsm_state.proofs.Merges.{unwritten, unmade, unsettled, settled}
 use Rattle.lsm_state.proofs.tree.TreeState.install_written.Goals as goal
 
 pub returns-in-Err-clause-installs : goal.returns-in-Err-clause-installs
@@ -30,13 +32,27 @@ returns-in-Ok-settle-clause-upholds g c tells =
     upholds_behind (g.S.Store.world c.args.self.now.store) (g.S.Store.world c.write_merged.new.self.store) (g.S.Store.world c.settle.new.self.store) c.args.self.now.core c.write_merged.new.self.core c.settle.new.self.core (ap versions_left c.write_merged.ensures.core) (c.write_merged.ensures.upholds tells)
     (record { files = λ stored. c.settle.ensures.upholds tells (c.in-Ok-version_merged.ensures.on_disk tells (subst (AreOnDisk (g.S.Store.world c.write_merged.new.self.store)) (sym c.deref.ensures.value) (c.in-Ok.ensures.on_disk tells)) stored) stored; passes = c.settle.ensures.passes tells })
 
+pub returns-in-Ok-settle-clause-installs : goal.returns-in-Ok-settle-clause-installs
+returns-in-Ok-settle-clause-installs g c =
+    let m = c.write_merged in
+    let job = c.args.merged.now.job in
+    let v = c.in-Ok-version_merged.version in
+    let first = c.args.self.now.core.next_table in
+    let fresh = subst (AllByRecursion (λ (t : SeenTable). first ≤ t.id)) (sym c.deref.ensures.value) c.in-Ok.ensures.fresh in
+    let of_job = subst (λ j. IsMergedInto first j m.new.self.core.history.latest.version v) c.job-job.ensures (c.in-Ok-version_merged.ensures.made first fresh) in
+    let made = subst (λ k. IsMergedInto first job k.history.latest.version v) m.ensures.core of_job in
+    let settles = subst (λ n. Settles v n (Ok tt) m.new.self.core c.settle.new.self.core) (ap (λ t. t.watermark) (c.settings.ensures ∙ ap (λ j. j.settings) c.job-job.ensures)) c.in-Ok-settle.ensures.settles in
+    settled job c.args.self.now.core c.settle.new.self.core m.new.self.core v m.ensures.rises m.ensures.draws m.ensures.core made settles.ok
+
 pub returns-clause-installs : goal.returns-clause-installs
 returns-clause-installs g c =
     let m = c.write_merged in
     let job = c.args.merged.now.job in
     let v = c.in-Ok-version_merged.version in
-    let of_job = subst (λ j. IsMergedInto j m.new.self.core.history.latest.version v) c.job-job.ensures c.in-Ok-version_merged.ensures.made in
-    let made = subst (λ k. IsMergedInto job k.history.latest.version v) m.ensures.core of_job in
+    let first = c.args.self.now.core.next_table in
+    let fresh = subst (AllByRecursion (λ (t : SeenTable). first ≤ t.id)) (sym c.deref.ensures.value) c.in-Ok.ensures.fresh in
+    let of_job = subst (λ j. IsMergedInto first j m.new.self.core.history.latest.version v) c.job-job.ensures (c.in-Ok-version_merged.ensures.made first fresh) in
+    let made = subst (λ k. IsMergedInto first job k.history.latest.version v) m.ensures.core of_job in
     let end = c.in-Err-settle in
     let settles = subst (λ n. Settles v n (Err end.error) m.new.self.core c.settle.new.self.core) (ap (λ t. t.watermark) (c.settings.ensures ∙ ap (λ j. j.settings) c.job-job.ensures)) end.ensures.settles in
     unsettled job end.error c.args.self.now.core c.settle.new.self.core m.new.self.core v m.ensures.rises m.ensures.draws m.ensures.core made settles

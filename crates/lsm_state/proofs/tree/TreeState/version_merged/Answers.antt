@@ -8,12 +8,12 @@ with_merge-requires-clause-new g c =
     subst (λ (v : SeenVersion). AreNew c.args.tables.now v.levels) (sym c.current_version-latest.ensures) (new_beside c.args.self.now.core c.args.job.now c.args.tables.now c.requires.merged)
 
 pub returns-clause-made : goal.returns-clause-made
-returns-clause-made g c =
+returns-clause-made g c first fresh =
     let v = c.in_ok-version in
     let job = c.args.job.now in
     let makes : Makes c.args.tables.now v.version c.ids.result.now.keys c.from-to.result c.current_version-latest.result.now = record { next = v.ensures.ok; covers = v.ensures.covers; placed = v.ensures.placed } in
     let made = made_at job c.args.self.now.core c.args.tables.now v.version c.ids.result.now.keys c.from-to.result c.current_version-latest.result.now c.ids.ensures (c.from-to.ensures ∙ ap (λ s. s.dest_level) c.settings.ensures) c.current_version-latest.ensures makes in
-    merged_into c.args.self.now.core job c.requires.may c.args.tables.now c.requires.merged v.version made v.ensures.laid c.facts-4.ensures.is.own_ids
+    merged_into c.args.self.now.core job c.requires.may c.args.tables.now c.requires.merged v.version made v.ensures.laid c.facts-4.ensures.is.own_ids first fresh
 
 pub returns-clause-settles : goal.returns-clause-settles
 returns-clause-settles g c =

@@ -7,7 +7,7 @@ use Rattle.lsm_commit.specs.Stored.{AreOnDisk}
 use Rattle.lsm_commit.specs.Contents.{AreWritten}
 use Rattle.lsm_compaction.specs.Merges.{AreTablesOf}
 use Rattle.lsm_state.specs.Compactions.{AreMerged}
-use Rattle.lsm_state.proofs.Merges.{merged, on_disk}
+use Rattle.lsm_state.proofs.Merges.{merged, above, on_disk}
 use Rattle.lsm_state.proofs.tree.TreeState.write_merged.Goals as goal
 
 pub tables-requires : goal.tables-requires
@@ -24,6 +24,16 @@ returns-clause-merged g c =
     let fit = subst (AllByRecursion (λ i. i < 2 ^ 63)) (sym c.deref.ensures.value) c.in-Ok.ensures.below in
     IfOk-weaker c.tables.result (λ ts. AreTablesOf m.job m.files ids ts.items) (λ ts. AreMerged m.job new ts.items)
     (λ ts made. subst (λ k. AreMerged m.job k ts.items) (sym c.in-Ok.ensures.core) (merged m.job m.files ids ts.items made old c.facts.ensures is fit new.next_table (c.in-Ok.ensures.next ∙ ap (λ l. old.next_table + length l) c.files.ensures))) c.tables.ensures.tables
+
+pub returns-clause-fresh : goal.returns-clause-fresh
+returns-clause-fresh g c =
+    let m = c.args.merged.now in
+    let old = c.args.self.now.core in
+    let ids = c.deref.result.now in
+    let is = c.deref.ensures.value ∙ c.in-Ok.ensures.ids ∙ ap (λ l. range_with_len old.next_table (length l)) c.files.ensures in
+    let fit = subst (AllByRecursion (λ i. i < 2 ^ 63)) (sym c.deref.ensures.value) c.in-Ok.ensures.below in
+    IfOk-weaker c.tables.result (λ ts. AreTablesOf m.job m.files ids ts.items) (λ ts. AllByRecursion (λ t. old.next_table ≤ t.id) ts.items)
+    (λ ts made. above m.job m.files ids ts.items made old c.facts.ensures is fit) c.tables.ensures.tables
 
 pub returns-clause-on_disk : goal.returns-clause-on_disk
 returns-clause-on_disk g c tells =
