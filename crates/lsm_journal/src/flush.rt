@@ -1,5 +1,5 @@
 // Flushes, and what is noted of them.
-ghost use Rattle.std.specs.Prelude.{◌≡◌, ◌⊎◌, ◌<◌, ◌∷◌, [], ℕ, map, true, length, take, IsSome, IfOk, IfErr, IfSome, IsErrOf};
+ghost use Rattle.std.specs.Prelude.{◌≡◌, ◌⊎◌, ◌<◌, ◌∷◌, [], ℕ, None, map, true, false, length, take, IsSome, IfOk, IfErr, IfSome, IsErrOf};
 ghost use Rattle.lsm_model.specs.declared.journal.JournalEntry.TheVariants.{Mark, Install};
 ghost use Rattle.lsm_commit.specs.Causes.{HasCause};
 ghost use Rattle.lsm_state.specs.Causes.{BlamesOrUnclean, BlamesOrUncleanFlush, BlamesOrUncleanBehind};
@@ -75,6 +75,8 @@ pub fn register_noting<S: Store>(
     ensures causes { HasCause (BlamesOrUnclean result.0) (S.world tree.old.store) (S.world tree.new.store) }
     // Behind a whole clean-up no file is left of what went.
     ensures gone { S.tells → IfOk result.0 (λ a. a.installed ≡ true → a.cleaned ≡ true → LeavesNoFiles (S.world tree.new.store) [] tree.old.core.history tree.new.core.history) }
+    // Where the job is stale, no call of the store is made.
+    ensures rests { IfOk result.0 (λ a. a.installed ≡ false → tree.new.store ≡ tree.old.store) }
     // Where the counter or the level was full, no file is left of a current job, unless a call of the store failed.
     ensures refused { S.tells → IsCurrent job tree.old.core → IsErrOf result.0 Error.OutOfNumbers ⊎ IsErrOf result.0 Error.TooManyRuns → RemovesTables (map (λ t. t.id) job.tables) (S.world tree.old.store) (S.world tree.new.store) }
     ensures no_call { IsSome tree.old.core.lost → tree.new.store ≡ tree.old.store }
@@ -101,6 +103,8 @@ pub fn flush_noting<S: Store>(
     ensures causes { HasCause (BlamesOrUncleanFlush result.0) (S.world tree.old.store) (S.world tree.new.store) }
     // Behind a whole clean-up no file is left of what went.
     ensures gone { S.tells → IfOk result.0 (λ a. IfSome a (λ p. p.1.cleaned ≡ true → LeavesNoFiles (S.world tree.new.store) [] tree.old.core.history tree.new.core.history)) }
+    // Where nothing is sealed no call of the store is made.
+    ensures rests { IfOk result.0 (λ a. a ≡ None → tree.new.store ≡ tree.old.store) }
     // Refused, no table's file is left of what it wrote, unless a call of the store failed, or the outcome of a commit is unknown.
     ensures refused { S.tells → tree.old.core.next_table < LIMIT → IfErr result.0 (λ e. (e ≡ Error.CommitUnknown → ⊥) → RemovesDrawn tree.old.core.next_table tree.new.core.next_table (S.world tree.old.store) (S.world tree.new.store)) }
     ensures no_call { IsSome tree.old.core.lost → tree.new.store ≡ tree.old.store }

@@ -4,6 +4,7 @@ ghost use Rattle.lsm_model.specs.declared.journal.JournalEntry.TheVariants.{Inst
 ghost use Rattle.lsm_commit.specs.Causes.{HasCause, Blames};
 ghost use Rattle.lsm_state.specs.Cleaning.{LeavesNoFiles, RemovesRefused};
 ghost use Rattle.lsm_state.specs.Commits.{Upholds};
+ghost use Rattle.lsm_state.specs.Compactions.{EndsOrRests};
 ghost use Rattle.lsm_state.specs.Core.{Core};
 ghost use Rattle.lsm_state.specs.CompactionReads.{TellsMerge};
 ghost use Rattle.lsm_journal.specs.Noted.{EndsNoted};
@@ -54,6 +55,8 @@ pub fn finish_noting<S: Store>(
     ensures causes { HasCause (Blames result.0) (S.world tree.old.store) (S.world tree.new.store) }
     // Behind a whole clean-up no file is left of what went.
     ensures gone { S.tells → result.0 ≡ Ok Finished.Installed → LeavesNoFiles (S.world tree.new.store) merged.job.ids tree.old.core.history tree.new.core.history }
+    // Where nothing is installed, and nothing refused, no call of the store is made.
+    ensures rests { IfOk result.0 (λ f. EndsOrRests f tree.old.store tree.new.store) }
     // Refused, no table's file is left of what it wrote, unless a call of the store failed, or a version may name it.
     ensures refused { S.tells → RemovesRefused result.0 tree.old.core tree.new.core (S.world tree.old.store) (S.world tree.new.store) }
     ensures no_call { IsSome tree.old.core.lost → tree.new.store ≡ tree.old.store }

@@ -1,5 +1,5 @@
 // The calls of a flush, and what they add to a journal.
-ghost use Rattle.std.specs.Prelude.{◌≡◌, ◌⊎◌, ◌<◌, [], map, true, IsSome, IfOk, IfErr, IfSome, IsErrOf};
+ghost use Rattle.std.specs.Prelude.{◌≡◌, ◌⊎◌, ◌<◌, [], None, map, true, false, IsSome, IfOk, IfErr, IfSome, IsErrOf};
 ghost use Rattle.lsm_commit.specs.Causes.{HasCause};
 ghost use Rattle.lsm_state.specs.Causes.{BlamesBeside, BlamesOrUnclean, BlamesOrUncleanFlush, BlamesOrUncleanBehind};
 ghost use Rattle.lsm_state.specs.Cleaning.{LeavesNoFiles, RemovesDrawn, RemovesTables};
@@ -100,6 +100,8 @@ impl<S: Store> Recorded<S> {
         ensures causes { HasCause (BlamesOrUnclean result) (S.world self.old.tree.store) (S.world self.new.tree.store) }
         // Behind a whole clean-up no file is left of what went.
         ensures gone { S.tells → IfOk result (λ a. a.installed ≡ true → a.cleaned ≡ true → LeavesNoFiles (S.world self.new.tree.store) [] self.old.tree.core.history self.new.tree.core.history) }
+        // Where the job is stale, no call of the store is made.
+        ensures rests { IfOk result (λ a. a.installed ≡ false → self.new.tree.store ≡ self.old.tree.store) }
         // Where the counter or the level was full, no file is left of a current job, unless a call of the store failed.
         ensures refused { S.tells → IsCurrent job self.old.tree.core → IsErrOf result Error.OutOfNumbers ⊎ IsErrOf result Error.TooManyRuns → RemovesTables (map (λ t. t.id) job.tables) (S.world self.old.tree.store) (S.world self.new.tree.store) }
         ensures no_call { IsSome self.old.tree.core.lost → self.new.tree.store ≡ self.old.tree.store }
@@ -145,6 +147,8 @@ impl<S: Store> Recorded<S> {
         ensures causes { HasCause (BlamesOrUncleanFlush result) (S.world self.old.tree.store) (S.world self.new.tree.store) }
         // Behind a whole clean-up no file is left of what went.
         ensures gone { S.tells → IfOk result (λ a. IfSome a (λ p. p.1.cleaned ≡ true → LeavesNoFiles (S.world self.new.tree.store) [] self.old.tree.core.history self.new.tree.core.history)) }
+        // Where nothing is sealed no call of the store is made.
+        ensures rests { IfOk result (λ a. a ≡ None → self.new.tree.store ≡ self.old.tree.store) }
         // Refused, no table's file is left of what it wrote, unless a call of the store failed, or the outcome of a commit is
         // unknown.
         ensures refused { S.tells → self.old.tree.core.next_table < LIMIT → IfErr result (λ e. (e ≡ Error.CommitUnknown → ⊥) → RemovesDrawn self.old.tree.core.next_table self.new.tree.core.next_table (S.world self.old.tree.store) (S.world self.new.tree.store)) }

@@ -26,3 +26,6 @@ pub returns-clause-gone : goal.returns-clause-gone
 returns-clause-gone g c tells =
     let w = g.S.Store.world in
     subst (λ t. IfOk c.args.chosen.answer (λ choice. c.begin_chosen-begun.result.0 ≡ Ok Installed → LeavesNoFiles (w c.begin_chosen-begun.new.tree.store) (given_up choice) t.tree.core.history c.begin_chosen-begun.new.tree.core.history)) c.self.view_is (c.begin_chosen-begun.ensures.gone tells)
+
+pub returns-clause-rests : goal.returns-clause-rests
+returns-clause-rests g c = rw (← c.self.view_is) c.begin_chosen-begun.ensures.rests

@@ -37,3 +37,6 @@ returns-clause-refused g c tells =
     let w = g.S.Store.world in
     let begun = c.compact_chosen-begun in
     subst (λ t. RemovesRefused begun.result.0 t.tree.core begun.new.tree.core (w t.tree.store) (w begun.new.tree.store)) c.self.view_is (begun.ensures.refused tells)
+
+pub returns-clause-rests : goal.returns-clause-rests
+returns-clause-rests g c = rw (← c.self.view_is) c.compact_chosen-begun.ensures.rests

@@ -42,3 +42,6 @@ returns-clause-refused g c tells =
     let w = g.S.Store.world in
     let ended = c.finish_noting-entries in
     subst (λ t. RemovesRefused ended.result.0 t.tree.core ended.new.tree.core (w t.tree.store) (w ended.new.tree.store)) c.self.view_is (ended.ensures.refused tells)
+
+pub returns-clause-rests : goal.returns-clause-rests
+returns-clause-rests g c = rw (← c.self.view_is) c.finish_noting-entries.ensures.rests

@@ -27,3 +27,6 @@ returns-clause-views g c =
 
 pub returns-clause-refused : goal.returns-clause-refused
 returns-clause-refused g c = rw (← c.self.view_is) c.flush_noting-entries.ensures.refused
+
+pub returns-clause-rests : goal.returns-clause-rests
+returns-clause-rests g c = rw (← c.self.view_is) c.flush_noting-entries.ensures.rests
