@@ -10,7 +10,6 @@ use Rattle.lsm_tables.specs.Cutting.{IsCutting}
 use Rattle.lsm_tables.specs.Tables.{SeenTable}
 use Rattle.lsm_tables.proofs.Cutting.{cut_none}
 use Rattle.lsm_versions.specs.Levels.{SeenVersion, all_of, HasOwnIds}
-use Rattle.lsm_commit.specs.declared.tables.TheConstants.{TABLE_TARGET}
 use Rattle.lsm_commit.specs.Stored.{IsStored, AreOnDisk}
 use Rattle.lsm_commit.specs.Writing.{HoldEntries, KeepsStored}
 use Rattle.lsm_flush.specs.Jobs.{SeenOpen}
@@ -56,7 +55,7 @@ none_or (e ∷ es) h = let none : suc (length es) ≡ 0 = is_zero (suc (length e
 pub no_tables : (made_at n : ℕ) (es : List Entry) (tables : List SeenTable) → nat_eq (length es) 0 ≡ true → tables ≡ [] → HoldEntries made_at es n n tables
 no_tables made_at n es tables empty none = subst (HoldEntries made_at es n n) (sym none) (record {
   whole = sym (none_or es empty);
-  cut = subst (λ (l : List Entry). IsCutting TABLE_TARGET l []) (sym (none_or es empty)) (cut_none TABLE_TARGET);
+  cut = subst (λ (l : List Entry). IsCutting 67108864 l []) (sym (none_or es empty)) (cut_none 67108864);
   made = tt;
   run = tt;
   fresh = tt;
