@@ -6,6 +6,7 @@ pub mod Reopening
 pub mod Blaming
 pub mod Removals
 pub mod Known
+pub mod Gone
 pub mod Rising
 pub mod Reached
 pub mod Left
