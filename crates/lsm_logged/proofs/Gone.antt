@@ -1,5 +1,5 @@
 -- Behind a removal of records no file is left of the tables and versions of which a commit, or an opening, before it left none.
-use Rattle.std.proofs.Common.{◌≡◌, ◌≢◌, ℕ, true, false, List, [], get_or, drop, length, Option, Some, None, IfSome, Contains, arith, sym, ap, ◌∙◌, subst}
+use Rattle.std.proofs.Common.{◌≡◌, ◌≢◌, ℕ, Bool, true, false, List, [], get_or, drop, length, Option, Some, None, IfSome, Contains, arith, sym, ap, ◌∙◌, subst}
 use Rattle.lsm_below.specs.Each.{each_weaker}
 use Rattle.lsm_store.specs.World.{World}
 use Rattle.lsm_manifest.specs.Kinds.{is_orphan}

@@ -158,7 +158,7 @@ returns-clause-gone g c tells installed cleaned =
     gone_behind g.S.Store.world i.tree c.register_tables.new.self i.numbers.items i.doubted c.clean_log.new.self c.args.self.now c.self.view_is cleans.core (c.clean_log.ensures.others tells) left
 
 pub returns-clause-rests : goal.returns-clause-rests
-returns-clause-rests g c no =
-    let stale = sym c.clean_log.ensures.cleans.installed ∙ no in
+returns-clause-rests g c isnt =
+    let stale = sym c.clean_log.ensures.cleans.installed ∙ isnt in
     let store = λ (t : SeenLogged g.row.S.Denot). t.store in
     ap store (c.clean_log.ensures.still stale) ∙ c.in_ok-registered.ensures.rests stale ∙ ap store c.self.view_is
