@@ -1,5 +1,5 @@
 -- A flush behind a rotation.
-use Rattle.std.proofs.Common.{◌≡◌, ℕ, ◌<◌, ◌^◌, true, List, [], length, Option, Some, None, Result, Ok, Err, IfOk, IfErr, IfSome, inr, refl, ap, sym, subst}
+use Rattle.std.proofs.Common.{◌≡◌, ℕ, ◌<◌, ◌^◌, true, List, Option, Some, None, Result, Ok, Err, IfOk, IfErr, IfSome, inr, ap, sym, ◌∙◌, subst}
 use Rattle.lsm_below.specs.declared.error.Error.{Error}
 use Rattle.lsm_below.specs.declared.error.Error.TheVariants.{CommitUnknown}
 use Rattle.lsm_store.specs.World.{World}
@@ -9,10 +9,11 @@ use Rattle.lsm_flush.specs.declared.jobs.Registered.{Registered}
 use Rattle.lsm_parts.specs.History.{SeenHistory}
 use Rattle.lsm_state.specs.Calls.{Rotates}
 use Rattle.lsm_state.specs.Causes.{BlamesOrUncleanFlush, BlamesOrUncleanBehind}
-use Rattle.lsm_state.specs.Cleaning.{LeavesNoFiles, RemovesDrawn}
-use Rattle.lsm_state.specs.Core.{Core, rotated_core}
+use Rattle.lsm_state.specs.Cleaning.{LeavesNoVersions, RemovesDrawn}
+use Rattle.lsm_state.specs.Core.{Core}
 use Rattle.lsm_state.specs.Commits.{Upholds}
-use Rattle.lsm_state.proofs.CleaningUp.{same_versions}
+use Rattle.lsm_state.proofs.CleaningUp.{rotated_leaves}
+use Rattle.lsm_state.proofs.WholeFlushes.{rotated_table}
 use Rattle.lsm_journal.specs.NotedFlushes.{FlushesNoted, FlushesActiveNoted, answer_behind}
 
 -- ---- the rotation
@@ -20,16 +21,6 @@ use Rattle.lsm_journal.specs.NotedFlushes.{FlushesNoted, FlushesActiveNoted, ans
 pub rotated_upholds : (w v : World) (old mid new : Core) (id : Option ℕ) → Rotates old id mid → Upholds w v mid new → Upholds w v old new
 rotated_upholds w v old mid new None t u = subst (λ c. Upholds w v c new) t.1 u
 rotated_upholds w v old mid new (Some id) t u = let behind = subst (λ c. Upholds w v c new) t.2 u in record { files = behind.files; passes = behind.passes }
-
-rotated_table : (old mid : Core) (id : Option ℕ) → Rotates old id mid → mid.next_table ≡ old.next_table
-rotated_table old mid None t = ap (λ (c : Core). c.next_table) t.1
-rotated_table old mid (Some id) t = ap (λ (c : Core). c.next_table) t.2
-
-rotated_leaves : (w : World) (old mid : Core) (id : Option ℕ) (new : SeenHistory) → Rotates old id mid → LeavesNoFiles w [] mid.history new → LeavesNoFiles w [] old.history new
-rotated_leaves w old mid None new t left = subst (λ (c : Core). LeavesNoFiles w [] c.history new) t.1 left
-rotated_leaves w old mid (Some id) new t left =
-    let mine = subst (λ (c : Core). LeavesNoFiles w [] c.history new) t.2 left in
-    record { tables = mine.tables; versions = same_versions w (rotated_core old).history.latest old.history.latest old.history.older (length new.older) refl mine.versions }
 
 -- ---- the flush behind it
 
@@ -47,7 +38,7 @@ blames_behind id (Err e) blamed = blamed
 pub behind_cause : (id : Option ℕ) (r : Flushed) (w v : World) → HasCause (BlamesOrUncleanFlush r) w v → HasCause (BlamesOrUncleanBehind (answer_behind id r)) w v
 behind_cause id r w v cause = causes_less _ _ w v cause (blames_behind id r)
 
-pub behind_gone : (id : Option ℕ) (r : Flushed) (w : World) (old mid : Core) (new : SeenHistory) → Rotates old id mid → IfOk r (λ a. IfSome a (λ p. p.1.cleaned ≡ true → LeavesNoFiles w [] mid.history new)) → IfOk (answer_behind id r) (λ a. IfSome a.1 (λ p. p.1.cleaned ≡ true → LeavesNoFiles w [] old.history new))
+pub behind_gone : (id : Option ℕ) (r : Flushed) (w : World) (old mid : Core) (new : SeenHistory) → Rotates old id mid → IfOk r (λ a. IfSome a (λ p. p.1.cleaned ≡ true → LeavesNoVersions w mid.history new)) → IfOk (answer_behind id r) (λ a. IfSome a.1 (λ p. p.1.cleaned ≡ true → LeavesNoVersions w old.history new))
 behind_gone id (Ok None) w old mid new rotates left = left
 behind_gone id (Ok (Some p)) w old mid new rotates left = λ whole. rotated_leaves w old mid id new rotates (left whole)
 behind_gone id (Err e) w old mid new rotates left = tt
@@ -55,5 +46,9 @@ behind_gone id (Err e) w old mid new rotates left = tt
 pub behind_refused : (id : Option ℕ) (r : Flushed) (w v : World) (old mid new : Core) → Rotates old id mid → (mid.next_table < 2 ^ 63 → IfErr r (λ e. (e ≡ CommitUnknown → ⊥) → RemovesDrawn mid.next_table new.next_table w v)) → old.next_table < 2 ^ 63 → IfErr (answer_behind id r) (λ e. (e.0 ≡ CommitUnknown → ⊥) → RemovesDrawn old.next_table new.next_table w v)
 behind_refused id (Ok a) w v old mid new rotates did small = tt
 behind_refused id (Err e) w v old mid new rotates did small =
-    let same = rotated_table old mid id rotates in
+    let same = rotated_table old id mid rotates in
     λ known. subst (λ n. RemovesDrawn n new.next_table w v) same (did (subst (λ n. n < 2 ^ 63) (sym same) small) known)
+
+pub behind_rests : {S : Type 0} (id : Option ℕ) (r : Flushed) (old mid new : S) → mid ≡ old → IfOk r (λ a. a ≡ None → new ≡ mid) → IfOk (answer_behind id r) (λ a. a.1 ≡ None → new ≡ old)
+behind_rests id (Ok a) old mid new same rests = λ none. rests none ∙ same
+behind_rests id (Err e) old mid new same rests = tt

@@ -3,7 +3,7 @@ ghost use Rattle.std.specs.Prelude.{◌≡◌, ◌⊎◌, ◌<◌, ◌∷◌, []
 ghost use Rattle.lsm_model.specs.declared.journal.JournalEntry.TheVariants.{Mark, Install};
 ghost use Rattle.lsm_commit.specs.Causes.{HasCause};
 ghost use Rattle.lsm_state.specs.Causes.{BlamesOrUnclean, BlamesOrUncleanFlush, BlamesOrUncleanBehind};
-ghost use Rattle.lsm_state.specs.Cleaning.{LeavesNoFiles, RemovesDrawn, RemovesTables};
+ghost use Rattle.lsm_state.specs.Cleaning.{LeavesNoVersions, RemovesDrawn, RemovesTables};
 ghost use Rattle.lsm_state.specs.Commits.{Upholds};
 ghost use Rattle.lsm_state.specs.Flushes.{IsCurrent};
 ghost use Rattle.lsm_state.specs.FlushReads.{register_events, flush_events};
@@ -74,7 +74,7 @@ pub fn register_noting<S: Store>(
     // The store is blamed only where a call of it failed.
     ensures causes { HasCause (BlamesOrUnclean result.0) (S.world tree.old.store) (S.world tree.new.store) }
     // Behind a whole clean-up no file is left of what went.
-    ensures gone { S.tells → IfOk result.0 (λ a. a.installed ≡ true → a.cleaned ≡ true → LeavesNoFiles (S.world tree.new.store) [] tree.old.core.history tree.new.core.history) }
+    ensures gone { S.tells → IfOk result.0 (λ a. a.installed ≡ true → a.cleaned ≡ true → LeavesNoVersions (S.world tree.new.store) tree.old.core.history tree.new.core.history) }
     // Where the job is stale, no call of the store is made.
     ensures rests { IfOk result.0 (λ a. a.installed ≡ false → tree.new.store ≡ tree.old.store) }
     // Where the counter or the level was full, no file is left of a current job, unless a call of the store failed.
@@ -102,7 +102,7 @@ pub fn flush_noting<S: Store>(
     // The store is blamed only where a call of it failed.
     ensures causes { HasCause (BlamesOrUncleanFlush result.0) (S.world tree.old.store) (S.world tree.new.store) }
     // Behind a whole clean-up no file is left of what went.
-    ensures gone { S.tells → IfOk result.0 (λ a. IfSome a (λ p. p.1.cleaned ≡ true → LeavesNoFiles (S.world tree.new.store) [] tree.old.core.history tree.new.core.history)) }
+    ensures gone { S.tells → IfOk result.0 (λ a. IfSome a (λ p. p.1.cleaned ≡ true → LeavesNoVersions (S.world tree.new.store) tree.old.core.history tree.new.core.history)) }
     // Where nothing is sealed no call of the store is made.
     ensures rests { IfOk result.0 (λ a. a ≡ None → tree.new.store ≡ tree.old.store) }
     // Refused, no table's file is left of what it wrote, unless a call of the store failed, or the outcome of a commit is unknown.
@@ -147,7 +147,9 @@ pub fn flush_active_noting<S: Store>(
     // The store is blamed only where a call of it failed.
     ensures causes { HasCause (BlamesOrUncleanBehind result.0) (S.world tree.old.store) (S.world tree.new.store) }
     // Behind a whole clean-up no file is left of what went.
-    ensures gone { S.tells → IfOk result.0 (λ a. IfSome a.1 (λ p. p.1.cleaned ≡ true → LeavesNoFiles (S.world tree.new.store) [] tree.old.core.history tree.new.core.history)) }
+    ensures gone { S.tells → IfOk result.0 (λ a. IfSome a.1 (λ p. p.1.cleaned ≡ true → LeavesNoVersions (S.world tree.new.store) tree.old.core.history tree.new.core.history)) }
+    // Where nothing is flushed no call of the store is made.
+    ensures rests { IfOk result.0 (λ a. a.1 ≡ None → tree.new.store ≡ tree.old.store) }
     // Refused, no table's file is left of what it wrote, unless a call of the store failed, or the outcome of a commit is unknown.
     ensures refused { S.tells → tree.old.core.next_table < LIMIT → IfErr result.0 (λ e. (e.0 ≡ Error.CommitUnknown → ⊥) → RemovesDrawn tree.old.core.next_table tree.new.core.next_table (S.world tree.old.store) (S.world tree.new.store)) }
     ensures no_call { IsSome tree.old.core.lost → tree.new.store ≡ tree.old.store }

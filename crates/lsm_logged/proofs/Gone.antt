@@ -1,9 +1,9 @@
--- Behind a removal of records no file is left of the tables and versions of which a commit, or an opening, before it left none.
-use Rattle.std.proofs.Common.{◌≡◌, ◌≢◌, ℕ, Bool, true, false, List, [], get_or, drop, length, Option, Some, None, IfSome, Contains, arith, sym, ap, ◌∙◌, subst}
+-- Behind a removal of records no file is left of the versions and orphans of which a commit, or an opening, before it left none.
+use Rattle.std.proofs.Common.{◌≡◌, ◌≢◌, ℕ, Bool, true, false, List, get_or, drop, length, Option, Some, None, IfSome, Contains, arith, sym, ap, ◌∙◌, subst}
 use Rattle.lsm_below.specs.Each.{each_weaker}
 use Rattle.lsm_store.specs.World.{World}
 use Rattle.lsm_manifest.specs.Kinds.{is_orphan}
-use Rattle.lsm_manifest.specs.Names.{table_name, version_name}
+use Rattle.lsm_manifest.specs.Names.{version_name}
 use Rattle.lsm_commit.specs.Foreign.{IsForeign}
 use Rattle.lsm_commit.proofs.PassingOpened.{no_orphan}
 use Rattle.lsm_log.specs.LogNames.{record_name}
@@ -13,15 +13,12 @@ use Rattle.lsm_parts.specs.declared.version.super_version.SuperVersion.{SuperVer
 use Rattle.lsm_parts.specs.History.{SeenHistory, versions_of}
 use Rattle.lsm_state.specs.Core.{Core, Seen}
 use Rattle.lsm_state.specs.Calls.{Rotates}
-use Rattle.lsm_state.specs.Cleaning.{LeavesNoFiles}
+use Rattle.lsm_state.specs.Cleaning.{LeavesNoVersions}
 use Rattle.lsm_state.proofs.CleaningUp.{rotated_leaves}
 use Rattle.lsm_logged.specs.Keeping.{SeenLogged}
 use Rattle.lsm_logged.specs.Removing.{KeepsRest}
 use Rattle.lsm_logged.proofs.LogNames.{record_is_foreign}
 use Rattle.lsm_logged.proofs.Seen.{logged_with}
-
-table_apart : (i k : ℕ) → table_name i ≢ record_name k
-table_apart i k e = let first = ap (λ (l : List ℕ). get_or l 0 0) e in omega (arith, first)
 
 version_apart : (i k : ℕ) → version_name i ≢ record_name k
 version_apart i k e = let first = ap (λ (l : List ℕ). get_or l 0 0) e in omega (arith, first)
@@ -30,22 +27,20 @@ version_apart i k e = let first = ap (λ (l : List ℕ). get_or l 0 0) e in omeg
 pub orphan_apart : (id : ℕ) (ids n numbers : List ℕ) → is_orphan id ids n ≡ true → IsNoneOf (Contains numbers) n
 orphan_apart id ids n numbers orphan k known e = let z : true ≡ false = sym orphan ∙ no_orphan id ids n (subst IsForeign (sym e) (record_is_foreign k)) in absurd (cc z)
 
-still_gone : (numbers ids : List ℕ) (mid new : World) (old core : SeenHistory) → KeepsRest numbers mid new → LeavesNoFiles mid ids old core → LeavesNoFiles new ids old core
-still_gone numbers ids mid new old core keeps left = record {
-  tables = λ i has. keeps (table_name i) (λ k known e. table_apart i k e) ∙ left.tables i has;
-  versions = each_weaker (λ (sv : SuperVersion). mid.gives (version_name sv.version.id) ≡ None) (λ sv. new.gives (version_name sv.version.id) ≡ None)
-      (λ sv none. keeps (version_name sv.version.id) (λ k known e. version_apart sv.version.id k e) ∙ none) (drop (length core.older) (versions_of old)) left.versions;
-}
+still_gone : (numbers : List ℕ) (mid new : World) (old core : SeenHistory) → KeepsRest numbers mid new → LeavesNoVersions mid old core → LeavesNoVersions new old core
+still_gone numbers mid new old core keeps left =
+    each_weaker (λ (sv : SuperVersion). mid.gives (version_name sv.version.id) ≡ None) (λ sv. new.gives (version_name sv.version.id) ≡ None)
+    (λ sv none. keeps (version_name sv.version.id) (λ k known e. version_apart sv.version.id k e) ∙ none) (drop (length core.older) (versions_of old)) left
 
 -- the same of the logged tree in which the tree stood before the commit
 pub gone_behind : {S : Type 0} (world : S → World) (tree mid : Seen S) (numbers : List ℕ) (doubted : Bool) (new seen : SeenLogged S) → logged_with tree numbers doubted ≡ seen → new.core ≡ mid.core → KeepsRest numbers (world mid.store) (world new.store)
-    → LeavesNoFiles (world mid.store) [] tree.core.history mid.core.history → LeavesNoFiles (world new.store) [] seen.core.history new.core.history
+    → LeavesNoVersions (world mid.store) tree.core.history mid.core.history → LeavesNoVersions (world new.store) seen.core.history new.core.history
 gone_behind world tree mid numbers doubted new seen view same keeps left =
-    subst (λ t. LeavesNoFiles (world new.store) [] t.core.history new.core.history) view
-    (subst (λ (k : Core). LeavesNoFiles (world new.store) [] tree.core.history k.history) (sym same) (still_gone numbers [] (world mid.store) (world new.store) tree.core.history mid.core.history keeps left))
+    subst (λ t. LeavesNoVersions (world new.store) t.core.history new.core.history) view
+    (subst (λ (k : Core). LeavesNoVersions (world new.store) tree.core.history k.history) (sym same) (still_gone numbers (world mid.store) (world new.store) tree.core.history mid.core.history keeps left))
 
 -- behind a rotation and a flush, where the flush cleaned all up
 pub rotated_gone : (w : World) (flushed : Option (ℕ × Registered)) (old mid : Core) (id : Option ℕ) (new : SeenHistory) → Rotates old id mid
-    → IfSome flushed (λ p. p.1.cleaned ≡ true → LeavesNoFiles w [] mid.history new) → IfSome flushed (λ p. p.1.cleaned ≡ true → LeavesNoFiles w [] old.history new)
+    → IfSome flushed (λ p. p.1.cleaned ≡ true → LeavesNoVersions w mid.history new) → IfSome flushed (λ p. p.1.cleaned ≡ true → LeavesNoVersions w old.history new)
 rotated_gone w None old mid id new rotates left = left
-rotated_gone w (Some p) old mid id new rotates left = λ whole. rotated_leaves w [] old mid id new rotates (left whole)
+rotated_gone w (Some p) old mid id new rotates left = λ whole. rotated_leaves w old mid id new rotates (left whole)

@@ -2,13 +2,13 @@
 use Rattle.std.proofs.Common.{◌≡◌, ℕ, Bool, List, Result, Ok, IfOk, subst}
 use Rattle.lsm_below.specs.declared.error.Error.{Error}
 use Rattle.lsm_store.specs.World.{World}
-use Rattle.lsm_pick.specs.declared.choice.Choice.{Choice}
+use Rattle.lsm_parts.specs.History.{SeenHistory}
 use Rattle.lsm_state.specs.declared.compaction.Begun.{Begun}
 use Rattle.lsm_state.specs.declared.compaction.Begun.TheVariants.{Installed}
-use Rattle.lsm_state.specs.Core.{Core, Seen}
+use Rattle.lsm_state.specs.Core.{Seen}
 use Rattle.lsm_state.specs.declared.compaction.Finished.{Finished}
-use Rattle.lsm_state.specs.Compactions.{Relation, InstallsOrRests, EndsOrRests, LeavesNoneChosen}
-use Rattle.lsm_state.specs.Cleaning.{RemovesRefused}
+use Rattle.lsm_state.specs.Compactions.{InstallsOrRests, EndsOrRests}
+use Rattle.lsm_state.specs.Cleaning.{LeavesNoFiles, RemovesRefused}
 use Rattle.lsm_logged.specs.Keeping.{SeenLogged}
 
 -- the logged tree in which a tree stands, with these numbers
@@ -16,9 +16,8 @@ abbrev pub logged_with : {S : Type 0} → Seen S → List ℕ → Bool → SeenL
 logged_with tree numbers doubted = record { store = tree.store; core = tree.core; numbers = numbers; doubted = doubted }
 
 -- behind an installed compaction no file is left
-pub leaves_seen : {S : Type 0} (may_choose : Relation Choice) (r : Result Begun Error) (w : World) (t u : SeenLogged S) (new : Core) → t ≡ u
-    → (r ≡ Ok Installed → LeavesNoneChosen w may_choose t.core new) → r ≡ Ok Installed → LeavesNoneChosen w may_choose u.core new
-leaves_seen {S} may_choose r w t u new is left = subst (λ (x : SeenLogged S). r ≡ Ok Installed → LeavesNoneChosen w may_choose x.core new) is left
+pub leaves_seen : {S : Type 0} (r : Result Begun Error) (w : World) (t u : SeenLogged S) (new : SeenHistory) → t ≡ u → (r ≡ Ok Installed → LeavesNoFiles w t.core.history new) → r ≡ Ok Installed → LeavesNoFiles w u.core.history new
+leaves_seen {S} r w t u new is = subst (λ (x : SeenLogged S). r ≡ Ok Installed → LeavesNoFiles w x.core.history new) is
 
 -- behind a refused compaction none is left of those that it wrote
 pub refused_seen : {S A : Type 0} (world : S → World) (r : Result A Error) (t u new : SeenLogged S) → t ≡ u → RemovesRefused r t.core new.core (world t.store) (world new.store) → RemovesRefused r u.core new.core (world u.store) (world new.store)

@@ -2,7 +2,7 @@
 ghost use Rattle.std.specs.Prelude.{◌≡◌, ◌⊎◌, ◌<◌, ◌^◌, [], true, false, None, map, IfOk, IfErr, OnOk, IfSome, IsErrOf};
 ghost use Rattle.lsm_commit.specs.Causes.{HasCause, Blames};
 ghost use Rattle.lsm_state.specs.Causes.{BlamesOrUncleanFlush, BlamesOrUncleanBehind, BlamesOrUnclean, BlamesBeside};
-ghost use Rattle.lsm_state.specs.Cleaning.{LeavesNoFiles, RemovesDrawn, RemovesTables};
+ghost use Rattle.lsm_state.specs.Cleaning.{LeavesNoVersions, RemovesDrawn, RemovesTables};
 ghost use Rattle.lsm_state.specs.Commits.{UpholdsFiles, Upholds};
 ghost use Rattle.lsm_state.specs.Flushes.{sealed_ids, spent, IsCurrent};
 ghost use Rattle.lsm_logged.specs.Keeping.{is_unsure};
@@ -79,7 +79,7 @@ impl<S: Store> Logged<S> {
         // The store is blamed only where a call of it failed.
         ensures causes { HasCause (BlamesOrUncleanFlush result) (S.world self.old.store) (S.world self.new.store) }
         // Behind a whole clean-up no file is left of what went.
-        ensures gone { S.tells → IfOk result (λ a. IfSome a (λ p. p.1.cleaned ≡ true → LeavesNoFiles (S.world self.new.store) [] self.old.core.history self.new.core.history)) }
+        ensures gone { S.tells → IfOk result (λ a. IfSome a (λ p. p.1.cleaned ≡ true → LeavesNoVersions (S.world self.new.store) self.old.core.history self.new.core.history)) }
         // Where nothing is sealed no call of the store is made.
         ensures rests { IfOk result (λ a. a ≡ None → self.new.store ≡ self.old.store) }
         // Refused, no table's file is left of what it wrote, unless a call of the store failed, or the outcome of a commit is
@@ -124,7 +124,9 @@ impl<S: Store> Logged<S> {
         ensures upholds { S.tells → UpholdsFiles (S.world self.old.store) (S.world self.new.store) self.old.core self.new.core }
         ensures causes { HasCause (BlamesOrUncleanBehind result) (S.world self.old.store) (S.world self.new.store) }
         // Behind a whole clean-up no file is left of what went.
-        ensures gone { S.tells → IfOk result (λ a. IfSome a.1 (λ p. p.1.cleaned ≡ true → LeavesNoFiles (S.world self.new.store) [] self.old.core.history self.new.core.history)) }
+        ensures gone { S.tells → IfOk result (λ a. IfSome a.1 (λ p. p.1.cleaned ≡ true → LeavesNoVersions (S.world self.new.store) self.old.core.history self.new.core.history)) }
+        // Where nothing is flushed no call of the store is made.
+        ensures rests { IfOk result (λ a. a.1 ≡ None → self.new.store ≡ self.old.store) }
         // Refused, no table's file is left of what it wrote, unless a call of the store failed, or the outcome of a commit is
         // unknown.
         ensures refused { S.tells → self.old.core.next_table < LIMIT → IfErr result (λ e. (e.0 ≡ Error.CommitUnknown → ⊥) → RemovesDrawn self.old.core.next_table self.new.core.next_table (S.world self.old.store) (S.world self.new.store)) }
@@ -219,7 +221,7 @@ impl<S: Store> Logged<S> {
         ensures upholds { S.tells → UpholdsFiles (S.world self.old.store) (S.world self.new.store) self.old.core self.new.core }
         ensures causes { HasCause (BlamesOrUnclean result) (S.world self.old.store) (S.world self.new.store) }
         // Behind a whole clean-up no file is left of what went.
-        ensures gone { S.tells → IfOk result (λ a. a.installed ≡ true → a.cleaned ≡ true → LeavesNoFiles (S.world self.new.store) [] self.old.core.history self.new.core.history) }
+        ensures gone { S.tells → IfOk result (λ a. a.installed ≡ true → a.cleaned ≡ true → LeavesNoVersions (S.world self.new.store) self.old.core.history self.new.core.history) }
         // Where the job is stale, no call of the store is made.
         ensures rests { IfOk result (λ a. a.installed ≡ false → self.new.store ≡ self.old.store) }
         // Refused so while it is current, no file is left of its tables, unless a call of the store failed.

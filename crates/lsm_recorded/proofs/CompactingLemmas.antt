@@ -19,7 +19,7 @@ use Rattle.lsm_state.specs.declared.compaction.Finished.{Finished}
 use Rattle.lsm_state.specs.Core.{Core, state_of}
 use Rattle.lsm_state.specs.Deeds.{IsNoDeed}
 use Rattle.lsm_state.specs.Cleaning.{LeavesNoFiles}
-use Rattle.lsm_state.specs.Compactions.{Relation, Spends, given_up, LeavesNoneChosen}
+use Rattle.lsm_state.specs.Compactions.{Relation, Spends}
 use Rattle.lsm_state.specs.CompactionReads.{SparesReads, IsAny, IsAnySnapshot, AreSparedBy}
 use Rattle.lsm_journal.specs.Noted.{IsAnswerOf, BeginsAnswer, EndsNoted, CompactsAnswer}
 use Rattle.lsm_journal.specs.NotedReads.{IsMarkedFor, NotedCompactionsKeepReads}
@@ -67,17 +67,3 @@ pub abandon_recorded : (opened : List Placed) (least : ℕ) (marks : BTreeMap By
 abandon_recorded opened least marks theory law low old new journal job none spends h =
     let t = events_recorded opened least marks theory low low old new journal journal IsAny IsAnySnapshot [] (law.silent old new none) tt (spends_go job [] old new refl spends) (sym (append-nil journal)) refl h in
     (t.0, λ s. t.1 s tt)
-
--- ---- what is gone
-
--- of an answer that a strategy may give: what is installed is a choice that it may make
-pub leaves_chosen : {S : Type 0} (may_choose : Relation Choice) (may_refuse : Relation ChooseError) (Does : Result Choice Error → List Event → Type 0) (w : World) (answer : Result Choice Error) (r : Result Begun Error) (old new : SeenRecorded S) (pass pass' : List (ℕ × JournalEntry)) → ((e : Error) (es : List Event) → Does (Err e) es → r ≡ Err e)
-    → IsAnswerOf may_choose may_refuse old.tree.core answer → RefusesUnnoted r old new pass pass' ⊎ NotesWhatIsDone (Does answer) old new pass pass' → IfOk answer (λ choice. r ≡ Ok Installed → LeavesNoFiles w (given_up choice) old.tree.core.history new.tree.core.history)
-    → r ≡ Ok Installed → LeavesNoneChosen w may_choose old.tree.core new.tree.core
-leaves_chosen may_choose may_refuse Does w (Ok choice) r old new pass pass' refuses is did gone done = (choice, is.1, gone done)
-leaves_chosen may_choose may_refuse Does w (Err e) r old new pass pass' refuses is did gone done =
-    ⊎_elim (λ (un : RefusesUnnoted r old new pass pass'). absurd (cc (un.refused, done))) (λ (notes : NotesWhatIsDone (Does (Err e)) old new pass pass'). let told = refuses e notes.events notes.does in absurd (cc (told, done))) did
-
-pub any_ok : {A E : Type 0} (P : A → Type 0) (r : Result A E) → ((x : A) → P x) → IfOk r P
-any_ok P (Ok x) h = h x
-any_ok P (Err e) h = tt

@@ -31,23 +31,25 @@ use Rattle.lsm_state.specs.declared.compaction.Options.{Options}
 use Rattle.lsm_state.specs.declared.compaction.Begun.{Begun}
 use Rattle.lsm_state.specs.Core.{Core, versions_left, written_of}
 use Rattle.lsm_state.specs.Kept.{IsKeptTree}
+use Rattle.lsm_state.specs.Cleaning.{IsUnnamed}
 use Rattle.lsm_state.specs.Settling.{MaySettle, HasItsTables}
 use Rattle.lsm_state.specs.Compactions.{levels_of, hidden_in, reason_of, IsPossible, IsMovedTo, IsDroppedFrom, IsNotMoved, IsNotDropped, InstallsChoice, Does, BeginsChoice, BeginsCompaction, Relation, MayAnswer, error_of}
 use Rattle.lsm_state.proofs.Installing.{each_permuted}
-use Rattle.lsm_state.proofs.Replacing.{IsApart, parts_apart, each_with, tables_with, none_of_none, others_left, spared}
+use Rattle.lsm_state.proofs.Replacing.{IsApart, parts_apart, each_with, tables_with, none_of_none, others_left, spared, covered, covered_by_none}
 use Rattle.lsm_state.proofs.Writing.{below_now}
 
 -- ---- a version of a run, and of what is left of the latest one
 
 module _ (c : Core) (kept : IsKeptTree c) (certain : c.lost ≡ None) (ids : List ℕ) (run : List SeenTable) (v : SeenVersion) (same : IsPermutation (run ++ left_in ids (all_of (levels_of c))) (all_of v.levels)) where
   pub may_settle : (gone : List ℕ) → v.id ≡ c.history.latest.version.id + 1 → HasOwnIds (all_of v.levels) → (c.next_table < 2 ^ 64 - 1 → AllByRecursion (λ t. t.id < c.next_table) run) → AllByRecursion (IsApart (written_of c)) run
-      → AreOthers gone (written_of c) → AreOthers gone (all_of v.levels) → MaySettle v gone c
-  may_settle gone id own below apart spares others = record {
+      → AreOthers gone (written_of c) → AreOthers gone (all_of v.levels) → AllByRecursion (λ t. IsUnnamed (all_of v.levels) t.id → among gone t.id ≡ true) (all_of (levels_of c)) → MaySettle v gone c
+  may_settle gone id own below apart spares others covers = record {
     certain = certain;
     id = id;
     tables = tables_with c.flush c.history c.next_table kept.tables ids run v same c.seqno id own below apart;
     spares = spares;
     others = others;
+    covers = covers;
   }
 
   pub has_tables : (w : World) → (IsStored w (versions_left c) (written_of c) → AreOnDisk w run) → HasItsTables w c v
@@ -76,6 +78,7 @@ module _ (c : Core) (kept : IsKeptTree c) (certain : c.lost ≡ None) (law : Cha
   moved_settles =
       may_settle c kept certain ids run v moved_same [] made.moves.next.id made.own_ids (λ lt. of_run (λ t. t.id < c.next_table) (below_now c.history c.flush c.next_table kept.tables lt))
       (of_run (IsApart (written_of c)) (parts_apart (written_of c) now kept.tables.own_ids)) (none_of_none (written_of c)) (none_of_none (all_of v.levels))
+      (covered_by_none ids run c.history v made.moves.one.same moved_same)
 
   pub moved_on_disk : (w : World) → HasItsTables w c v
   moved_on_disk w = has_tables c kept certain ids run v moved_same w (λ stored. of_run (IsTableOnDisk w) stored.whole.0.tables)
@@ -89,7 +92,7 @@ module _ (c : Core) (kept : IsKeptTree c) (certain : c.lost ≡ None) (law : Cha
   pub dropped_settles : MaySettle v ids c
   dropped_settles =
       may_settle c kept certain ids [] v dropped_same ids made.next.id made.own_ids (λ lt. tt) tt (spared ids c.flush c.history c.next_table kept.tables there)
-      (others_left ids [] c.history v dropped_same tt)
+      (others_left ids [] c.history v dropped_same tt) (covered ids [] c.history v dropped_same)
 
   pub dropped_on_disk : (w : World) → HasItsTables w c v
   dropped_on_disk w = has_tables c kept certain ids [] v dropped_same w (λ stored. tt)

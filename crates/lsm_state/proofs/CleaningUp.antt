@@ -3,10 +3,10 @@ use Rattle.std.proofs.Common.{◌≡◌, ℕ, ◌≤◌, ◌<◌, Bool, true, fa
 use Rattle.std.proofs.Math.Seq.{take-length}
 use Rattle.std.proofs.lemmas.Bool.Decides.{nat_tests}
 use Rattle.std.specs.List.{AllByRecursion}
-use Rattle.lsm_below.specs.Each.{each_both}
+use Rattle.lsm_below.specs.Each.{each_both, each_weaker}
 use Rattle.lsm_below.specs.declared.error.Error.{Error}
 use Rattle.lsm_store.specs.World.{World}
-use Rattle.lsm_manifest.specs.Names.{version_name}
+use Rattle.lsm_manifest.specs.Names.{table_name, version_name}
 use Rattle.lsm_memtable.specs.Memtables.{SeenMemtable}
 use Rattle.lsm_flush.specs.Jobs.{SeenOpen}
 use Rattle.lsm_parts.specs.declared.version.super_version.SuperVersion.{SuperVersion}
@@ -14,12 +14,14 @@ use Rattle.lsm_parts.specs.History.{SeenHistory, versions_of}
 use Rattle.lsm_parts.specs.Maintenance.{Forgets, KeepsVersions}
 use Rattle.lsm_parts.specs.Held.{HasFirst, ids_of, FallFrom, is_among}
 use Rattle.lsm_state.specs.Kept.{named_by, least_named, NamesHeld, NameHeld, NameOlder, KeepsIds, KeepsTables}
-use Rattle.lsm_versions.specs.Levels.{SeenVersion}
+use Rattle.lsm_tables.specs.Tables.{SeenTable}
+use Rattle.lsm_model.specs.Steps.{among}
+use Rattle.lsm_versions.specs.Levels.{SeenVersion, all_of}
 use Rattle.lsm_state.specs.Calls.{Rotates}
 use Rattle.lsm_state.specs.Core.{Core, versions_left, written_of, rotated_core}
 use Rattle.lsm_state.specs.Commits.{UpholdsFiles}
 use Rattle.lsm_parts.specs.Held.{from_id}
-use Rattle.lsm_state.specs.Cleaning.{oldest_named, LeavesNoFiles}
+use Rattle.lsm_state.specs.Cleaning.{oldest_named, AreAbsent, IsUnnamed, LeavesNoVersions}
 use Rattle.lsm_state.proofs.Forgetting.{least_down, all_over, older_take}
 use Rattle.lsm_state.proofs.Upholding.{upheld, among_left}
 
@@ -155,8 +157,13 @@ pub same_versions : (w : World) (a b : SuperVersion) (svs : List SuperVersion) (
 same_versions w a b svs zero is all = (subst (λ (v : SeenVersion). w.gives (version_name v.id) ≡ None) is all.0, all.1)
 same_versions w a b svs (suc n) is all = all
 
-pub rotated_leaves : (w : World) (ids : List ℕ) (old mid : Core) (id : Option ℕ) (new : SeenHistory) → Rotates old id mid → LeavesNoFiles w ids mid.history new → LeavesNoFiles w ids old.history new
-rotated_leaves w ids old mid None new r left = subst (λ (c : Core). LeavesNoFiles w ids c.history new) r.1 left
-rotated_leaves w ids old mid (Some id) new r left =
-    let mine = subst (λ (c : Core). LeavesNoFiles w ids c.history new) r.2 left in
-    record { tables = mine.tables; versions = same_versions w (rotated_core old).history.latest old.history.latest old.history.older (length new.older) refl mine.versions }
+pub rotated_leaves : (w : World) (old mid : Core) (id : Option ℕ) (new : SeenHistory) → Rotates old id mid → LeavesNoVersions w mid.history new → LeavesNoVersions w old.history new
+rotated_leaves w old mid None new r left = subst (λ (c : Core). LeavesNoVersions w c.history new) r.1 left
+rotated_leaves w old mid (Some id) new r left = same_versions w (rotated_core old).history.latest old.history.latest old.history.older (length new.older) refl (subst (λ (c : Core). LeavesNoVersions w c.history new) r.2 left)
+
+-- the files of the tables that the new version doesn't name, where those of these ids are absent
+pub gone_tables : (w : World) (gone : List ℕ) (v u : SeenVersion) (tables : List SeenTable) → u ≡ v → AllByRecursion (λ t. IsUnnamed (all_of v.levels) t.id → among gone t.id ≡ true) tables → AreAbsent w gone
+    → AllByRecursion (λ t. IsUnnamed (all_of u.levels) t.id → w.gives (table_name t.id) ≡ None) tables
+gone_tables w gone v u tables is covers absent =
+    subst (λ (x : SeenVersion). AllByRecursion (λ t. IsUnnamed (all_of x.levels) t.id → w.gives (table_name t.id) ≡ None) tables) (sym is)
+    (each_weaker (λ t. IsUnnamed (all_of v.levels) t.id → among gone t.id ≡ true) (λ t. IsUnnamed (all_of v.levels) t.id → w.gives (table_name t.id) ≡ None) (λ t covered unnamed. absent t.id (covered unnamed)) tables covers)

@@ -28,7 +28,7 @@ use Rattle.lsm_state.specs.Settling.{MaySettle, HasItsTables, Settles, IsInstall
 use Rattle.lsm_state.specs.Flushes.{with_next_table}
 use Rattle.lsm_state.specs.Compactions.{levels_of, HoldsMerged, AreMerged, MayMerge, IsMergedInto, DrawsFor, InstallsMerge, closed}
 use Rattle.lsm_state.proofs.Choices.{may_settle, has_tables}
-use Rattle.lsm_state.proofs.Replacing.{IsApart, parts_apart, own_first, own_apart, others_left, swapped, spared, other_than, apart_none}
+use Rattle.lsm_state.proofs.Replacing.{IsApart, parts_apart, own_first, own_apart, others_left, swapped, spared, other_than, apart_none, covered}
 use Rattle.lsm_state.proofs.Distinct.{own_behind}
 use Rattle.lsm_state.proofs.Writing.{own_joined}
 
@@ -160,6 +160,7 @@ module _ (c : Core) (kept : IsKeptTree c) (law : ChangesKeepTables) (job : SeenC
       may_settle c kept may.certain job.ids tables v same job.ids makes.next.id own made.below (apart_from (IsApart (written_of c)) (λ t a. each_left (λ u. eqb u.id t.id ≡ false) (written_of c) now a))
       (spared job.ids c.flush c.history c.next_table kept.tables there)
       (others_left job.ids tables c.history v same (apart_from (λ t. among job.ids t.id ≡ false) (λ t a. other_than job.ids now t.id there (apart_none now t (each_right (λ u. eqb u.id t.id ≡ false) (written_of c) now a)))))
+      (covered job.ids tables c.history v same)
 
   pub merged_on_disk : (w : World) → AreOnDisk w tables → HasItsTables w c v
   merged_on_disk w disk = has_tables c kept may.certain job.ids tables v same w (λ stored. disk)

@@ -2,6 +2,7 @@
 use Rattle.std.proofs.Common.{◌≡◌, ℕ, ◌+◌, ◌-◌, ◌<◌, ◌^◌, ◌||◌, Bool, true, false, not, cond, List, [], ◌∷◌, ◌++◌, map, Option, None, option_to_list, Result, Ok, Err, IfErr, inr, refl, sym, ap, ◌∙◌, subst, arith, eqb}
 use Rattle.std.specs.List.{AllByRecursion, IsDistinct, list_any}
 use Rattle.std.specs.List.Sorted.{IsPermutation}
+use Rattle.std.proofs.lemmas.List.Sorted.{IsPermutation-sym}
 use Rattle.std.proofs.lemmas.Bool.Decides.{nat_tests}
 use Rattle.lsm_below.specs.declared.error.Error.{Error}
 use Rattle.lsm_below.specs.declared.error.Error.TheVariants.{AfterCommit}
@@ -9,7 +10,7 @@ use Rattle.lsm_below.specs.Each.{each_left, each_right, each_weaker, each_append
 use Rattle.lsm_store.specs.World.{World}
 use Rattle.lsm_tables.specs.Tables.{SeenTable}
 use Rattle.lsm_model.specs.Steps.{among}
-use Rattle.lsm_versions.specs.Levels.{SeenVersion, all_of, HasOwnIds, left_in}
+use Rattle.lsm_versions.specs.Levels.{SeenVersion, all_of, HasOwnIds, left_in, chosen_in}
 use Rattle.lsm_commit.specs.Commits.{AreOthers, SparesTables}
 use Rattle.lsm_commit.specs.Writing.{KeepsStored}
 use Rattle.lsm_flush.specs.Jobs.{SeenOpen}
@@ -17,7 +18,7 @@ use Rattle.lsm_parts.specs.History.{SeenHistory, versions_of}
 use Rattle.lsm_state.specs.Kept.{KeepsTables}
 use Rattle.lsm_state.specs.Core.{Core, versions_left, written_by, written_of}
 use Rattle.lsm_state.specs.Commits.{UpholdsFiles}
-use Rattle.lsm_state.specs.Cleaning.{AreDrawnBelow}
+use Rattle.lsm_state.specs.Cleaning.{AreDrawnBelow, IsUnnamed}
 use Rattle.lsm_state.specs.Settling.{with_version, IsInstalled, Settles}
 use Rattle.lsm_state.proofs.Installing.{each_permuted}
 use Rattle.lsm_state.proofs.Upholding.{upheld, among_left}
@@ -94,6 +95,47 @@ none_of_none (t ∷ ts) = (refl, none_of_none ts)
 
 pub others_left : (ids : List ℕ) (run : List SeenTable) (h : SeenHistory) (v : SeenVersion) → IsPermutation (run ++ left_in ids (all_of h.latest.version.levels)) (all_of v.levels) → AreOthers ids run → AreOthers ids (all_of v.levels)
 others_left ids run h v same of_run = each_permuted (λ t. among ids t.id ≡ false) (run ++ left_in ids (all_of h.latest.version.levels)) (all_of v.levels) same (each_append (λ t. among ids t.id ≡ false) run (left_in ids (all_of h.latest.version.levels)) of_run (left_others ids (all_of h.latest.version.levels)))
+
+left_rest : (ids : List ℕ) (t : SeenTable) (ts : List SeenTable) (P : SeenTable → Type 0) (b : Bool) → AllByRecursion P (cond (not b) (t ∷ ts) ts) → AllByRecursion P ts
+left_rest ids t ts P true all = all
+left_rest ids t ts P false all = all.1
+
+-- what some tables hold those hold that are left of these, so a table that they don't name has one of the ids that went
+gone_one : (ids : List ℕ) (t : SeenTable) (ts : List SeenTable) (b : Bool) → among ids t.id ≡ b → AllByRecursion (λ u. u.id ≡ t.id → ⊥) (cond (not b) (t ∷ ts) ts) → among ids t.id ≡ true
+gone_one ids t ts true e all = e
+gone_one ids t ts false e all = absurd (all.0 refl)
+
+gone_among : (ids : List ℕ) (made ts : List SeenTable) → ((P : SeenTable → Type 0) → AllByRecursion P made → AllByRecursion P (left_in ids ts)) → AllByRecursion (λ t. IsUnnamed made t.id → among ids t.id ≡ true) ts
+gone_among ids made [] holds = tt
+gone_among ids made (t ∷ ts) holds = (
+  λ unnamed. gone_one ids t (left_in ids ts) (among ids t.id) refl (holds (λ u. u.id ≡ t.id → ⊥) unnamed),
+  gone_among ids made ts (λ P all. left_rest ids t (left_in ids ts) P (among ids t.id) (holds P all)),
+)
+
+pub covered : (ids : List ℕ) (run : List SeenTable) (h : SeenHistory) (v : SeenVersion) → IsPermutation (run ++ left_in ids (all_of h.latest.version.levels)) (all_of v.levels) → AllByRecursion (λ t. IsUnnamed (all_of v.levels) t.id → among ids t.id ≡ true) (all_of h.latest.version.levels)
+covered ids run h v same =
+    let now = all_of h.latest.version.levels in
+    gone_among ids (all_of v.levels) now (λ P all. each_right P run (left_in ids now) (each_permuted P (all_of v.levels) (run ++ left_in ids now) (IsPermutation-sym (run ++ left_in ids now) (all_of v.levels) same) all))
+
+-- where those that went are in the run, none went
+still_named : (ids : List ℕ) (made ts : List SeenTable) → ((P : SeenTable → Type 0) → AllByRecursion P made → AllByRecursion P ts) → AllByRecursion (λ t. IsUnnamed made t.id → among ids t.id ≡ true) ts
+still_named ids made [] holds = tt
+still_named ids made (t ∷ ts) holds = (λ unnamed. absurd ((holds (λ u. u.id ≡ t.id → ⊥) unnamed).0 refl), still_named ids made ts (λ P all. (holds P all).1))
+
+both_parts : (P : SeenTable → Type 0) (t : SeenTable) (chosen rest : List SeenTable) (ts : List SeenTable) (b : Bool) → (AllByRecursion P chosen → AllByRecursion P rest → AllByRecursion P ts) → AllByRecursion P (cond b (t ∷ chosen) chosen) → AllByRecursion P (cond (not b) (t ∷ rest) rest) → AllByRecursion P (t ∷ ts)
+both_parts P t chosen rest ts true both some others = (some.0, both some.1 others)
+both_parts P t chosen rest ts false both some others = (others.0, both some others.1)
+
+of_parts : (P : SeenTable → Type 0) (ids : List ℕ) (ts : List SeenTable) → AllByRecursion P (chosen_in ids ts) → AllByRecursion P (left_in ids ts) → AllByRecursion P ts
+of_parts P ids [] some others = tt
+of_parts P ids (t ∷ ts) some others = both_parts P t (chosen_in ids ts) (left_in ids ts) ts (among ids t.id) (of_parts P ids ts) some others
+
+pub covered_by_none : (ids : List ℕ) (run : List SeenTable) (h : SeenHistory) (v : SeenVersion) → IsPermutation (chosen_in ids (all_of h.latest.version.levels)) run → IsPermutation (run ++ left_in ids (all_of h.latest.version.levels)) (all_of v.levels)
+    → AllByRecursion (λ t. IsUnnamed (all_of v.levels) t.id → among [] t.id ≡ true) (all_of h.latest.version.levels)
+covered_by_none ids run h v moved same =
+    let now = all_of h.latest.version.levels in
+    let parts = λ (P : SeenTable → Type 0) (all : AllByRecursion P (all_of v.levels)). each_permuted P (all_of v.levels) (run ++ left_in ids now) (IsPermutation-sym (run ++ left_in ids now) (all_of v.levels) same) all in
+    still_named [] (all_of v.levels) now (λ P all. of_parts P ids now (each_permuted P run (chosen_in ids now) (IsPermutation-sym (chosen_in ids now) run moved) (each_left P run (left_in ids now) (parts P all))) (each_right P run (left_in ids now) (parts P all)))
 
 -- where each of some ids is that of one of these tables
 abbrev has_id : List SeenTable → ℕ → Bool

@@ -16,20 +16,23 @@ use Rattle.lsm_state.specs.declared.compaction.Begun.TheVariants.{DidNothing, De
 use Rattle.lsm_state.specs.Core.{Core, versions_left}
 use Rattle.lsm_state.specs.Commits.{Upholds, counted}
 use Rattle.lsm_state.specs.Cleaning.{LeavesNoFiles, RemovesDrawn, RemovesRefused}
-use Rattle.lsm_state.specs.Compactions.{reason_of, job_for, InstallsChoice, OpensMerge, Does, BeginsChoice, Relation, BeginsCompaction, Spends, given_up, LeavesNoneChosen, InstallsOrRests}
+use Rattle.lsm_state.specs.Compactions.{reason_of, InstallsChoice, OpensMerge, Does, BeginsChoice, Relation, BeginsCompaction, Spends, InstallsOrRests}
 use Rattle.lsm_state.specs.WholeCompactions.{Follows}
 use Rattle.lsm_state.proofs.Causing.{removes_then}
 use Rattle.lsm_state.proofs.Installing.{upholds_join}
 use Rattle.lsm_state.proofs.WholeFlushes.{upholds_behind}
 
--- a job changes no version
-opened_stays : (choice : Choice) (o : Options) (job : SeenCompaction) (old mid : Core) → Does choice o (Ok (Job job)) old mid → versions_left mid ≡ versions_left old
+-- a job changes nothing but the open merges
+abbrev OnlyMerges : Core → Core → Type 0
+OnlyMerges old mid = mid ≡ (let c : Core = record old { merges = mid.merges } in c)
+
+opened_stays : (choice : Choice) (o : Options) (job : SeenCompaction) (old mid : Core) → Does choice o (Ok (Job job)) old mid → OnlyMerges old mid
 opened_stays DoNothing o job old mid does = absurd (cc does.0)
 opened_stays (Move input) o job old mid does = absurd (cc does.ok)
-opened_stays (Merge input) o job old mid does = ap versions_left does.ok
+opened_stays (Merge input) o job old mid does = does.ok ∙ ap (λ m. let c : Core = record old { merges = m } in c) (sym (ap (λ c. c.merges) does.ok))
 opened_stays (Drop ids) o job old mid does = absurd (cc does.ok)
 
-job_stays : (choice : Choice) (o : Options) (job : SeenCompaction) (old mid : Core) → BeginsChoice choice o (Ok (Job job)) old mid → versions_left mid ≡ versions_left old
+job_stays : (choice : Choice) (o : Options) (job : SeenCompaction) (old mid : Core) → BeginsChoice choice o (Ok (Job job)) old mid → OnlyMerges old mid
 job_stays choice o job old mid begins = by_lost old.lost refl
   where
     declined : (why : Why) → ◌≡◌ {A = Result Begun Error} (Ok (Job job)) (Ok (Declined why)) → ⊥
@@ -38,30 +41,30 @@ job_stays choice o job old mid begins = by_lost old.lost refl
     refused : (e : Error) → ◌≡◌ {A = Result Begun Error} (Ok (Job job)) (Err e) → ⊥
     refused e h = cc h
 
-    by_reason : old.lost ≡ None → (why : Option Why) → reason_of choice old ≡ why → versions_left mid ≡ versions_left old
+    by_reason : old.lost ≡ None → (why : Option Why) → reason_of choice old ≡ why → OnlyMerges old mid
     by_reason certain None is = opened_stays choice o job old mid (begins.does certain is)
     by_reason certain (Some why) is = ⊎_elim (λ h. absurd (declined why h)) (λ h. absurd (refused _ h)) (begins.declines why certain is).0
 
-    by_lost : (l : Option SeenVersion) → old.lost ≡ l → versions_left mid ≡ versions_left old
+    by_lost : (l : Option SeenVersion) → old.lost ≡ l → OnlyMerges old mid
     by_lost None certain = by_reason certain (reason_of choice old) refl
     by_lost (Some v) is = absurd (refused _ (begins.unrecoverable.1 (subst IsSome (sym is) refl)))
 
-pub begun_stays : (may_choose : Relation Choice) (may_refuse : Relation ChooseError) (o : Options) (job : SeenCompaction) (old mid : Core) → BeginsCompaction may_choose may_refuse o (Ok (Job job)) old mid → versions_left mid ≡ versions_left old
+begun_stays : (may_choose : Relation Choice) (may_refuse : Relation ChooseError) (o : Options) (job : SeenCompaction) (old mid : Core) → BeginsCompaction may_choose may_refuse o (Ok (Job job)) old mid → OnlyMerges old mid
 begun_stays may_choose may_refuse o job old mid begins = by_lost old.lost refl
   where
     refused : (e : Error) → ◌≡◌ {A = Result Begun Error} (Ok (Job job)) (Err e) → ⊥
     refused e h = cc h
 
-    by_lost : (l : Option SeenVersion) → old.lost ≡ l → versions_left mid ≡ versions_left old
+    by_lost : (l : Option SeenVersion) → old.lost ≡ l → OnlyMerges old mid
     by_lost None certain = ⊎_elim (λ h. job_stays h.0 o job old mid h.2) (λ h. absurd (refused _ h.2)) (begins.chosen certain)
     by_lost (Some v) is = absurd (refused _ (begins.unrecoverable.1 (subst IsSome (sym is) refl)))
 
 -- what a crash leaves in how a compaction begins, and in what follows, it leaves in both together
-follows_uphold : (w v u : World) (begun r : Result Begun Error) (old mid new : Core) → ((job : SeenCompaction) → begun ≡ Ok (Job job) → versions_left mid ≡ versions_left old) → Follows begun r mid new → Upholds w v old mid → Upholds v u mid new → Upholds w u old new
+follows_uphold : (w v u : World) (begun r : Result Begun Error) (old mid new : Core) → ((job : SeenCompaction) → begun ≡ Ok (Job job) → OnlyMerges old mid) → Follows begun r mid new → Upholds w v old mid → Upholds v u mid new → Upholds w u old new
 follows_uphold w v u (Ok DidNothing) r old mid new stays follows first second = upholds_join w v u old mid new (ap versions_left follows.1) first second
 follows_uphold w v u (Ok (Declined why)) r old mid new stays follows first second = upholds_join w v u old mid new (ap versions_left follows.1) first second
 follows_uphold w v u (Ok Installed) r old mid new stays follows first second = upholds_join w v u old mid new (ap versions_left follows.1) first second
-follows_uphold w v u (Ok (Job job)) r old mid new stays follows first second = upholds_behind w v u old mid new (stays job refl) first second
+follows_uphold w v u (Ok (Job job)) r old mid new stays follows first second = upholds_behind w v u old mid new (ap versions_left (stays job refl)) first second
 follows_uphold w v u (Err e) r old mid new stays follows first second = upholds_join w v u old mid new (ap versions_left follows.1) first second
 
 pub choice_upholds : (w v u : World) (choice : Choice) (o : Options) (begun r : Result Begun Error) (old mid new : Core) → BeginsChoice choice o begun old mid → Follows begun r mid new → Upholds w v old mid → Upholds v u mid new → Upholds w u old new
@@ -77,50 +80,26 @@ whole_upholds w v u may_choose may_refuse o begun r old mid new begins follows f
 pub same_job : (a b : SeenCompaction) → ◌≡◌ {A = Begun} (Job a) (Job b) → a ≡ b
 same_job a b h = cc h
 
-opened_job : (choice : Choice) (o : Options) (job : SeenCompaction) (old mid : Core) → Does choice o (Ok (Job job)) old mid → (job.ids ≡ given_up choice) × (mid.history ≡ old.history)
-opened_job DoNothing o job old mid does = absurd (cc does.0)
-opened_job (Move input) o job old mid does = absurd (cc does.ok)
-opened_job (Merge input) o job old mid does = (ap (λ j. j.ids) (same_job job (job_for input o old) does.job), ap (λ c. c.history) does.ok)
-opened_job (Drop ids) o job old mid does = absurd (cc does.ok)
+not_done : (r q : Result Begun Error) → r ≡ q → r ≡ Ok Installed → q ≡ Ok Installed
+not_done r q is done = sym is ∙ done
 
-chosen_job : (choice : Choice) (o : Options) (job : SeenCompaction) (old mid : Core) → old.lost ≡ None → BeginsChoice choice o (Ok (Job job)) old mid → (job.ids ≡ given_up choice) × (mid.history ≡ old.history)
-chosen_job choice o job old mid certain begins = by_reason (reason_of choice old) refl
-  where
-    declined : (why : Why) → ◌≡◌ {A = Result Begun Error} (Ok (Job job)) (Ok (Declined why)) → ⊥
-    declined why h = cc h
+-- what is left behind a compaction that is installed
+follows_leave : (v u : World) (begun r : Result Begun Error) (old mid new : Core) → ((job : SeenCompaction) → begun ≡ Ok (Job job) → OnlyMerges old mid) → Follows begun r mid new → (begun ≡ Ok Installed → LeavesNoFiles v old.history mid.history)
+    → ((job : SeenCompaction) → begun ≡ Ok (Job job) → r ≡ Ok Installed → LeavesNoFiles u mid.history new.history) → (begun ≡ Ok Installed → u ≡ v) → r ≡ Ok Installed → LeavesNoFiles u old.history new.history
+follows_leave v u (Ok DidNothing) r old mid new stays follows first second rests done = let q = not_done r (Ok DidNothing) follows.0 done in absurd (cc q)
+follows_leave v u (Ok (Declined why)) r old mid new stays follows first second rests done = let q = not_done r (Ok (Declined why)) follows.0 done in absurd (cc q)
+follows_leave v u (Ok Installed) r old mid new stays follows first second rests done =
+    subst (λ (z : World). LeavesNoFiles z old.history new.history) (sym (rests refl)) (subst (λ (c : Core). LeavesNoFiles v old.history c.history) (sym follows.1) (first refl))
+follows_leave v u (Ok (Job job)) r old mid new stays follows first second rests done = subst (λ h. LeavesNoFiles u h new.history) (ap (λ c. c.history) (stays job refl)) (second job refl done)
+follows_leave v u (Err e) r old mid new stays follows first second rests done = let q = not_done r (Err e) follows.0 done in absurd (cc q)
 
-    refused : (e : Error) → ◌≡◌ {A = Result Begun Error} (Ok (Job job)) (Err e) → ⊥
-    refused e h = cc h
+pub choice_leaves : (v u : World) (choice : Choice) (o : Options) (begun r : Result Begun Error) (old mid new : Core) → BeginsChoice choice o begun old mid → Follows begun r mid new → (begun ≡ Ok Installed → LeavesNoFiles v old.history mid.history)
+    → ((job : SeenCompaction) → begun ≡ Ok (Job job) → r ≡ Ok Installed → LeavesNoFiles u mid.history new.history) → (begun ≡ Ok Installed → u ≡ v) → r ≡ Ok Installed → LeavesNoFiles u old.history new.history
+choice_leaves v u choice o begun r old mid new begins = follows_leave v u begun r old mid new (λ job is. job_stays choice o job old mid (subst (λ b. BeginsChoice choice o b old mid) is begins))
 
-    by_reason : (why : Option Why) → reason_of choice old ≡ why → (job.ids ≡ given_up choice) × (mid.history ≡ old.history)
-    by_reason None is = opened_job choice o job old mid (begins.does certain is)
-    by_reason (Some why) is = ⊎_elim (λ h. absurd (declined why h)) (λ h. absurd (refused _ h)) (begins.declines why certain is).0
-
-module _ (may_choose : Relation Choice) (may_refuse : Relation ChooseError) (o : Options) where
-  job_leaves : (u : World) (job : SeenCompaction) (old mid new : Core) → BeginsCompaction may_choose may_refuse o (Ok (Job job)) old mid → LeavesNoFiles u job.ids mid.history new.history → LeavesNoneChosen u may_choose old new
-  job_leaves u job old mid new begins left = by_lost old.lost refl
-    where
-      refused : (e : Error) → ◌≡◌ {A = Result Begun Error} (Ok (Job job)) (Err e) → ⊥
-      refused e h = cc h
-
-      by_lost : (l : Option SeenVersion) → old.lost ≡ l → LeavesNoneChosen u may_choose old new
-      by_lost None certain = ⊎_elim
-          (λ h. let is = chosen_job h.0 o job old mid certain h.2 in (h.0, h.1, subst (λ k. LeavesNoFiles u (given_up h.0) k new.history) is.1 (subst (λ ids. LeavesNoFiles u ids mid.history new.history) is.0 left)))
-          (λ h. absurd (refused _ h.2)) (begins.chosen certain)
-      by_lost (Some v) is = absurd (refused _ (begins.unrecoverable.1 (subst IsSome (sym is) refl)))
-
-  not_done : (r q : Result Begun Error) → r ≡ q → r ≡ Ok Installed → q ≡ Ok Installed
-  not_done r q is done = sym is ∙ done
-
-  -- what is left behind a compaction that is installed
-  pub follows_leave : (v u : World) (begun r : Result Begun Error) (old mid new : Core) → BeginsCompaction may_choose may_refuse o begun old mid → Follows begun r mid new → (begun ≡ Ok Installed → LeavesNoneChosen v may_choose old mid)
-      → ((job : SeenCompaction) → begun ≡ Ok (Job job) → r ≡ Ok Installed → LeavesNoFiles u job.ids mid.history new.history) → (begun ≡ Ok Installed → u ≡ v) → r ≡ Ok Installed → LeavesNoneChosen u may_choose old new
-  follows_leave v u (Ok DidNothing) r old mid new begins follows first second rests done = let q = not_done r (Ok DidNothing) follows.0 done in absurd (cc q)
-  follows_leave v u (Ok (Declined why)) r old mid new begins follows first second rests done = let q = not_done r (Ok (Declined why)) follows.0 done in absurd (cc q)
-  follows_leave v u (Ok Installed) r old mid new begins follows first second rests done =
-      subst (λ z. LeavesNoneChosen z may_choose old new) (sym (rests refl)) (subst (LeavesNoneChosen v may_choose old) (sym follows.1) (first refl))
-  follows_leave v u (Ok (Job job)) r old mid new begins follows first second rests done = job_leaves u job old mid new begins (second job refl done)
-  follows_leave v u (Err e) r old mid new begins follows first second rests done = let q = not_done r (Err e) follows.0 done in absurd (cc q)
+pub whole_leaves : (v u : World) (may_choose : Relation Choice) (may_refuse : Relation ChooseError) (o : Options) (begun r : Result Begun Error) (old mid new : Core) → BeginsCompaction may_choose may_refuse o begun old mid → Follows begun r mid new → (begun ≡ Ok Installed → LeavesNoFiles v old.history mid.history)
+    → ((job : SeenCompaction) → begun ≡ Ok (Job job) → r ≡ Ok Installed → LeavesNoFiles u mid.history new.history) → (begun ≡ Ok Installed → u ≡ v) → r ≡ Ok Installed → LeavesNoFiles u old.history new.history
+whole_leaves v u may_choose may_refuse o begun r old mid new begins = follows_leave v u begun r old mid new (λ job is. begun_stays may_choose may_refuse o job old mid (subst (λ b. BeginsCompaction may_choose may_refuse o b old mid) is begins))
 
 -- ---- refused, what is left of the files that were written
 

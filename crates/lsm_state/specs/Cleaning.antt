@@ -5,6 +5,7 @@ use Rattle.std.proofs.Common.{arith, inl}
 use Rattle.lsm_below.specs.declared.error.Error.{Error}
 use Rattle.lsm_below.specs.declared.error.Error.TheVariants.{Store, CommitUnknown, AfterCommit}
 use Rattle.lsm_store.specs.World.{World}
+use Rattle.lsm_tables.specs.Tables.{SeenTable}
 use Rattle.lsm_model.specs.Steps.{among}
 use Rattle.lsm_versions.specs.Levels.{all_of}
 use Rattle.lsm_manifest.specs.Names.{table_name, version_name}
@@ -36,10 +37,18 @@ pub record Cleans (w : ℕ) (whole : Bool) (old new : Core) : Type 0 where
 abbrev pub AreAbsent : World → List ℕ → Type 0
 AreAbsent w ids = (i : ℕ) → among ids i ≡ true → w.gives (table_name i) ≡ None
 
--- behind a commit no file is left of these tables, nor of the version of a super version that went
-pub record LeavesNoFiles (w : World) (ids : List ℕ) (old new : SeenHistory) : Type 0 where
-  pub tables : AreAbsent w ids
-  pub versions : AllByRecursion (λ sv. w.gives (version_name sv.version.id) ≡ None) (drop (length new.older) (versions_of old))
+-- no table has this id
+abbrev pub IsUnnamed : List SeenTable → ℕ → Type 0
+IsUnnamed tables i = AllByRecursion (λ t. t.id ≡ i → ⊥) tables
+
+-- behind a commit no file is left of the version of a super version that went
+abbrev pub LeavesNoVersions : World → SeenHistory → SeenHistory → Type 0
+LeavesNoVersions w old new = AllByRecursion (λ sv. w.gives (version_name sv.version.id) ≡ None) (drop (length new.older) (versions_of old))
+
+-- nor of a table of the latest version that the new one doesn't name
+pub record LeavesNoFiles (w : World) (old new : SeenHistory) : Type 0 where
+  pub tables : AllByRecursion (λ t. IsUnnamed (all_of new.latest.version.levels) t.id → w.gives (table_name t.id) ≡ None) (all_of old.latest.version.levels)
+  pub versions : LeavesNoVersions w old new
 
 -- the ids of all tables of a tree are below this one
 abbrev pub AreDrawnBelow : ℕ → Core → Type 0

@@ -31,9 +31,7 @@ use Rattle.lsm_state.specs.declared.compaction.Begun.{Begun}
 use Rattle.lsm_state.specs.declared.compaction.Begun.TheVariants.{DidNothing, Declined, Installed, Job}
 use Rattle.lsm_state.specs.declared.compaction.Finished.{Finished}
 use Rattle.lsm_state.specs.declared.compaction.Finished.TheVariants.{Declined as Over, Installed as Done}
-use Rattle.lsm_store.specs.World.{World}
 use Rattle.lsm_state.specs.Core.{Core, written_of}
-use Rattle.lsm_state.specs.Cleaning.{LeavesNoFiles}
 use Rattle.lsm_state.specs.Commits.{counted}
 use Rattle.lsm_state.specs.Flushes.{with_next_table}
 use Rattle.lsm_state.specs.Settling.{SettlesSome}
@@ -154,17 +152,6 @@ abbrev pub IsChosen : Relation Choice → Relation ChooseError → Options → R
 IsChosen may_choose may_refuse o r old new =
     ((choice : Choice) × MayAnswer may_choose old choice × BeginsChoice choice o r old new)
     ⊎ ((e : ChooseError) × MayAnswer may_refuse old e × (r ≡ Err (error_of e)) × (new ≡ old))
-
--- the tables that a choice gives up, once it is installed
-abbrev pub given_up : Choice → List ℕ
-given_up DoNothing = []
-given_up (Move input) = []
-given_up (Merge input) = input.table_ids.keys
-given_up (Drop ids) = ids.keys
-
--- behind a choice that a strategy may make no file is left of what it gives up
-abbrev pub LeavesNoneChosen : World → Relation Choice → Core → Core → Type 0
-LeavesNoneChosen w may_choose old new = (choice : Choice) × MayAnswer may_choose old choice × LeavesNoFiles w (given_up choice) old.history new.history
 
 -- with this answer something was installed, or no call of the store was made
 abbrev pub InstallsOrRests : {S : Type 0} → Begun → S → S → Type 0

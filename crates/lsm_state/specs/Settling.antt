@@ -1,7 +1,9 @@
 -- How a version takes the place of the latest one, outside a flush.
 use Rattle.std.specs.Prelude.{◌≡◌, ℕ, ◌+◌, ◌^◌, ◌≤◌, None, Bool, true, List, Result, ◌⊎◌, OnOk, IfErr, IsErrOf}
+use Rattle.std.specs.List.{AllByRecursion}
 use Rattle.lsm_below.specs.declared.error.Error.{Error}
 use Rattle.lsm_below.specs.declared.error.Error.TheVariants.{OutOfMemory, Store, CommitUnknown, OutOfNumbers, TooManyRuns, AfterCommit}
+use Rattle.lsm_model.specs.Steps.{among}
 use Rattle.lsm_versions.specs.Levels.{SeenVersion, all_of}
 use Rattle.lsm_store.specs.World.{World}
 use Rattle.lsm_commit.specs.Stored.{IsStored, AreOnDisk}
@@ -11,7 +13,7 @@ use Rattle.lsm_parts.specs.History.{SeenHistory, versions_of}
 use Rattle.lsm_state.specs.Kept.{KeepsTables}
 use Rattle.lsm_state.specs.Core.{Core, versions_left, written_of}
 use Rattle.lsm_state.specs.Commits.{counted, committed, doubted}
-use Rattle.lsm_state.specs.Cleaning.{Cleans}
+use Rattle.lsm_state.specs.Cleaning.{Cleans, IsUnnamed}
 
 -- ---- super versions
 
@@ -44,6 +46,8 @@ pub record MaySettle (v : SeenVersion) (gone : List ℕ) (c : Core) : Type 0 whe
   pub tables : KeepsTables c.flush (history_with v c) c.next_table
   pub spares : AreOthers gone (written_of c)
   pub others : AreOthers gone (all_of v.levels)
+  -- of the tables that the latest version names and this one doesn't none is left out
+  pub covers : AllByRecursion (λ t. IsUnnamed (all_of v.levels) t.id → among gone t.id ≡ true) (all_of c.history.latest.version.levels)
 
 -- where the files of a tree are stored, those of a version's tables are on the disk
 abbrev pub HasItsTables : World → Core → SeenVersion → Type 0

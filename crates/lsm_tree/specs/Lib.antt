@@ -1,2 +1,3 @@
+pub mod Files
 pub mod Shared
 pub mod Gates

@@ -1,10 +1,13 @@
 -- Calls of a tree behind a lock: what it was before is not known, nor what it is later.
-use Rattle.std.specs.Prelude.{◌≡◌, ℕ, ◌<◌, ◌≤◌, ◌⊎◌, List, [], ◌∷◌, None, Result, IfErr, IsErrOf, IsOk}
+use Rattle.std.specs.Prelude.{◌≡◌, ℕ, ◌<◌, ◌≤◌, ◌⊎◌, List, [], ◌∷◌, None, false, Result, IfErr, IsErrOf, IsOk}
 use Rattle.lsm_model.specs.declared.journal.JournalEntry.{JournalEntry}
+use Rattle.lsm_below.specs.Keys.{Bytes}
 use Rattle.lsm_below.specs.Entries.{above}
 use Rattle.lsm_model.specs.Beginnings.{shown_by}
 use Rattle.lsm_model.specs.Journal.{ReadAgrees}
 use Rattle.lsm_model.specs.Views.{held, found_at}
+use Rattle.lsm_model.specs.declared.op.Op.{Op}
+use Rattle.lsm_commit.specs.Stored.{CountsFaults}
 use Rattle.lsm_below.specs.declared.error.Error.{Error}
 use Rattle.lsm_below.specs.declared.error.Error.TheVariants.{OutOfMemory, OutOfNumbers, OutOfOrder, SnapshotTooOld}
 use Rattle.lsm_store.specs.World.{World}
@@ -12,17 +15,25 @@ use Rattle.lsm_versions.specs.declared.config.TheConstants.{LIMIT}
 use Rattle.lsm_state.specs.Core.{Core, Seen, latest_of, older_of}
 use Rattle.lsm_parts.specs.Held.{first_entries}
 use Rattle.lsm_state.specs.Kept.{IsKeptTree}
-use Rattle.lsm_logged.specs.Keeping.{SeenLogged, IsKeptLogged}
+use Rattle.lsm_state.specs.Commits.{UpholdsFiles}
+use Rattle.lsm_state.specs.Recording.{RecordsBatch}
+use Rattle.lsm_logged.specs.Keeping.{SeenLogged, IsKeptLogged, is_unsure, AreKnown}
+use Rattle.lsm_logged.specs.Writing.{WritesLogged}
 use Rattle.lsm_logged.specs.Removing.{log_from_of, KeepsKnown, Passed}
 use Rattle.lsm_logged.specs.Flushing.{RemovesBehind}
 use Rattle.lsm_recorded.specs.Passes.{Notes}
 use Rattle.lsm_recorded.specs.Recorded.{SeenRecorded, IsKeptRecorded}
+use Rattle.lsm_tree.specs.Files.{KeepsFiles}
 
--- a call that took some tree to another; of both holds what holds of every tree
-abbrev pub OnSomeTree : (Core → Core → Type 0) → Type 0
-OnSomeTree P = (old : Core) × (new : Core) × P old new × IsKeptTree old × IsKeptTree new
+-- what a call does to the files of a tree, by what tells of them
+abbrev pub OnFiles : Type 0 → Type 1
+OnFiles S = Type 0 → (S → World) → Seen S → Seen S → Type 0
 
--- the same, and the call left the tree's store alone
+-- a call that took some tree to another, and did this to its files; of both holds what holds of every tree
+abbrev pub OnSomeTreeFiles : {S : Type 0} → Type 0 → (S → World) → OnFiles S → (Core → Core → Type 0) → Type 0
+OnSomeTreeFiles {S} tells world Files P = (old : Seen S) × (new : Seen S) × P old.core new.core × KeepsFiles tells world old new × Files tells world old new × IsKeptTree old.core × IsKeptTree new.core
+
+-- a call that took some tree to another, and left its store alone
 abbrev pub OnSomeTreeAlone : (S : Type 0) → (Core → Core → Type 0) → Type 0
 OnSomeTreeAlone S P = (old : Seen S) × (new : Seen S) × P old.core new.core × (new.store ≡ old.store) × IsKeptTree old.core × IsKeptTree new.core
 
@@ -33,6 +44,10 @@ AtSomeTree P = (c : Core) × P c × IsKeptTree c
 -- a call that took some tree with its journal to another; of both holds what holds of every one
 abbrev pub OnSomeRecorded : (S : Type 0) → (SeenRecorded S → SeenRecorded S → Type 0) → Type 0
 OnSomeRecorded S P = (old : SeenRecorded S) × (new : SeenRecorded S) × P old new × IsKeptRecorded old × IsKeptRecorded new
+
+-- and did this to its files
+abbrev pub OnSomeRecordedFiles : {S : Type 0} → Type 0 → (S → World) → OnFiles S → (SeenRecorded S → SeenRecorded S → Type 0) → Type 0
+OnSomeRecordedFiles {S} tells world Files P = OnSomeRecorded S (λ old new. P old new × KeepsFiles tells world old.tree new.tree × Files tells world old.tree new.tree)
 
 -- an answered read: what it gives of the tree, which stays, is what the replay of the journal does, outside dropped ranges, and is
 -- noted in the journal and in the pass
@@ -57,6 +72,14 @@ AtSomeRecorded S P = (t : SeenRecorded S) × P t × IsKeptRecorded t
 abbrev pub OnSomeLogged : (S : Type 0) → (SeenLogged S → SeenLogged S → Type 0) → Type 0
 OnSomeLogged S P = (old : SeenLogged S) × (new : SeenLogged S) × P old new × IsKeptLogged old × IsKeptLogged new
 
+-- the tree below its log
+abbrev pub tree_of : {S : Type 0} → SeenLogged S → Seen S
+tree_of t = record { store = t.store; core = t.core }
+
+-- and did this to its files
+abbrev pub OnSomeLoggedFiles : {S : Type 0} → Type 0 → (S → World) → OnFiles S → (SeenLogged S → SeenLogged S → Type 0) → Type 0
+OnSomeLoggedFiles {S} tells world Files P = OnSomeLogged S (λ old new. P old new × KeepsFiles tells world (tree_of old) (tree_of new) × Files tells world (tree_of old) (tree_of new))
+
 -- a call that looked at some tree with a log above it, of which this holds
 abbrev pub AtSomeLogged : (S : Type 0) → (SeenLogged S → Type 0) → Type 0
 AtSomeLogged S P = (t : SeenLogged S) × P t × IsKeptLogged t
@@ -68,16 +91,26 @@ pub record TouchesTreeAlone {S : Type 0} (P : Core → Core → Type 0) (old new
   pub numbers : new.numbers ≡ old.numbers
   pub doubt : new.doubted ≡ old.doubted
 
--- what a flush or a clear leaves of the log: only records that the version has passed go, none before that version is on the disk,
--- and each that is left is known
-pub record LeavesLog {S : Type 0} (world : S → World) (old new : SeenLogged S) : Type 0 where
-  pub passes : Passed (log_from_of new.core) (world old.store) (world new.store)
-  pub behind : RemovesBehind (world old.store) (world new.store) old.core new.core
-  pub known : KeepsKnown (world old.store) (world new.store) old.numbers new.numbers
+-- a batch is written, and its record put first, where no outcome is unknown; each record that is there stays known, a crash leaves a
+-- version that the tree had or has, and a call of the store failed just where the answer says so
+pub record WritesRecorded {S : Type 0} (tells : Type 0) (world : S → World) (ops : List (Bytes × Op)) (r : Result ℕ Error) (old new : SeenLogged S) : Type 0 where
+  pub writes : WritesLogged ops r old new
+  pub records : tells → is_unsure old ≡ false → RecordsBatch old.core.seqno ops (world old.store) (world new.store) r
+  pub known : tells → AreKnown (world old.store) old.numbers → AreKnown (world new.store) new.numbers
+  pub upholds : tells → UpholdsFiles (world old.store) (world new.store) old.core new.core
+  pub counts : CountsFaults (world old.store) (world new.store) r
 
--- a call that took the store of some tree to another
-abbrev pub OnSomeStore : (S : Type 0) → (S → S → Type 0) → Type 0
-OnSomeStore S P = (old : S) × (new : S) × P old new
+-- what a flush or a clear leaves of the log: a crash leaves a version that the tree had or has; only records that the version has
+-- passed go, none before that version is on the disk, and each that is left is known
+pub record LeavesLog {S : Type 0} (tells : Type 0) (world : S → World) (old new : SeenLogged S) : Type 0 where
+  pub upholds : tells → UpholdsFiles (world old.store) (world new.store) old.core new.core
+  pub passes : tells → Passed (log_from_of new.core) (world old.store) (world new.store)
+  pub behind : tells → RemovesBehind (world old.store) (world new.store) old.core new.core
+  pub known : tells → KeepsKnown (world old.store) (world new.store) old.numbers new.numbers
+
+-- a call that may remove records, and did this to its files
+abbrev pub OnSomeLoggedRemoving : {S : Type 0} → Type 0 → (S → World) → OnFiles S → (SeenLogged S → SeenLogged S → Type 0) → Type 0
+OnSomeLoggedRemoving {S} tells world Files P = OnSomeLogged S (λ old new. P old new × LeavesLog tells world old new × Files tells world (tree_of old) (tree_of new))
 
 -- a read is refused as too old, where the tree has no super version for its snapshot, or for want of memory
 pub record RefusesSharedRead {A : Type 0} (snapshot : ℕ) (r : Result A Error) : Type 0 where

@@ -1,18 +1,15 @@
 // The calls of a logged tree behind the lock.
-ghost use Rattle.std.specs.Prelude.{◌≡◌, ◌≤◌, ◌+◌, ◌↔◌, ℕ, true, false, Option, IfOk, IfErr, IsErrOf, IsTrue, length};
+ghost use Rattle.std.specs.Prelude.{◌≡◌, ◌≤◌, ◌+◌, ◌↔◌, ℕ, true, Option, IfOk, IfErr, IsErrOf, IsTrue, length};
 ghost use Rattle.lsm_below.specs.Sums.{capped};
-ghost use Rattle.lsm_commit.specs.Causes.{HasCause, Blames};
-ghost use Rattle.lsm_commit.specs.Stored.{CountsFaults};
 ghost use Rattle.lsm_compaction.specs.OpenMerges.{hides};
 ghost use Rattle.lsm_parts.specs.Held.{HasFirst};
 ghost use Rattle.lsm_state.specs.WholeFlushes.{sealed_bytes};
 ghost use Rattle.lsm_state.specs.Flushes.{with_next_table};
-ghost use Rattle.lsm_state.specs.Recording.{RecordsBatch};
 ghost use Rattle.lsm_state.specs.Calls.{Rotates};
 ghost use Rattle.lsm_logged.specs.Keeping.{is_unsure};
 ghost use Rattle.lsm_logged.specs.Flushing.{ClearsLogged};
-ghost use Rattle.lsm_logged.specs.Writing.{WritesLogged};
-ghost use Rattle.lsm_tree.specs.Shared.{OnSomeStore, OnSomeLogged, AtSomeTree, AtSomeLogged, TouchesTreeAlone, LeavesLog, RefusesSharedRotation};
+ghost use Rattle.lsm_tree.specs.Files.{ClearsFiles};
+ghost use Rattle.lsm_tree.specs.Shared.{OnSomeLogged, AtSomeTree, AtSomeLogged, TouchesTreeAlone, RefusesSharedRotation, WritesRecorded, OnSomeLoggedRemoving};
 
 use crate::handle::Handle;
 use crate::lock::{act, read, read_tree};
@@ -30,9 +27,7 @@ impl<S: Store> Handle<Logged<S>> {
     /// `Logged::write`. The record is put and synced under the lock: a batch of many operations costs one sync, many batches
     /// cost one each.
     pub fn write(&self, rt: &impl Wait, ops: Vec<(UserKey, Op)>) -> Result<SeqNo, Error>
-        ensures writes { OnSomeLogged S (λ old new. WritesLogged ops.items result old new × (S.tells → is_unsure old ≡ false → RecordsBatch old.core.seqno ops.items (S.world old.store) (S.world new.store) result)) }
-        // The store is blamed only where a call of it failed.
-        ensures causes { OnSomeStore S (λ old new. CountsFaults (S.world old) (S.world new) result) }
+        ensures { OnSomeLogged S (WritesRecorded S.tells S.world ops.items result) }
     {
         act!(self, rt, |tree| tree.write(ops))
     }
@@ -47,9 +42,7 @@ impl<S: Store> Handle<Logged<S>> {
 
     /// Clears the tree, as `Logged::clear`. The lock is held while the version's file is written and records are removed.
     pub fn clear(&self, rt: &impl Wait) -> Result<SeqNo, Error>
-        ensures clears { OnSomeLogged S (λ old new. ClearsLogged result old new × (S.tells → LeavesLog S.world old new)) }
-        // The store is blamed only where a call of it failed.
-        ensures causes { OnSomeStore S (λ old new. HasCause (Blames result) (S.world old) (S.world new)) }
+        ensures { OnSomeLoggedRemoving S.tells S.world (ClearsFiles result) (λ old new. ClearsLogged result old new) }
     {
         act!(self, rt, |tree| tree.clear())
     }

@@ -10,7 +10,6 @@ ghost use Rattle.lsm_model.specs.declared.question.Question.TheVariants.{Get as 
 ghost use Rattle.lsm_model.specs.declared.question.Answer.TheVariants.{Found, Pairs as PairsAnswer};
 ghost use Rattle.lsm_model.specs.declared.op.Op.TheVariants.{Set, Del, Weak};
 ghost use Rattle.lsm_versions.specs.Levels.{placed_of};
-ghost use Rattle.lsm_commit.specs.Causes.{HasCause, Blames};
 ghost use Rattle.lsm_recorded.specs.Closing.{ListTogether};
 ghost use Rattle.lsm_recorded.specs.Order.{keeps_order, batch_keeps_order};
 ghost use Rattle.lsm_state.specs.Calls.{Appends, Gives, WritesBatch, Rotates};
@@ -18,7 +17,8 @@ ghost use Rattle.lsm_state.specs.Listing.{Lists, ListsPrefix};
 ghost use Rattle.lsm_recorded.specs.Recorded.{OwnOr};
 ghost use Rattle.lsm_recorded.specs.Flushing.{RefusesUnnoted};
 ghost use Rattle.lsm_recorded.specs.Clearing.{ClearsNoted};
-ghost use Rattle.lsm_tree.specs.Shared.{OnSomeTreeAlone, OnSomeStore, OnSomeRecorded, AtSomeTree, AtSomeRecorded, RefusesRecordedRead, RefusesSharedRotation, ReadsNoted, WritesNoted};
+ghost use Rattle.lsm_tree.specs.Files.{ClearsFiles};
+ghost use Rattle.lsm_tree.specs.Shared.{OnSomeTreeAlone, OnSomeRecorded, AtSomeTree, AtSomeRecorded, RefusesRecordedRead, RefusesSharedRotation, ReadsNoted, WritesNoted, OnSomeRecordedFiles};
 
 use crate::handle::Handle;
 use crate::lock::{act, read};
@@ -172,9 +172,7 @@ impl<S: Store> Handle<Recorded<S>> {
 
     /// Clears the tree, as `Recorded::clear`. The lock is held while the version's file is written.
     pub fn clear(&self, rt: &impl Wait, pass: &mut Pass) -> Result<SeqNo, Error>
-        ensures clears { OnSomeRecorded S (λ old new. RefusesUnnoted result old new pass.old pass.new ⊎ ClearsNoted result old new pass.old pass.new) }
-        // The store is blamed only where a call of it failed.
-        ensures causes { OnSomeStore S (λ old new. HasCause (Blames result) (S.world old) (S.world new)) }
+        ensures { OnSomeRecordedFiles S.tells S.world (ClearsFiles result) (λ old new. RefusesUnnoted result old new pass.old pass.new ⊎ ClearsNoted result old new pass.old pass.new) }
     {
         act!(self, rt, |tree| tree.clear(pass))
     }

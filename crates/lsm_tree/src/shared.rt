@@ -3,11 +3,11 @@ ghost use Rattle.std.specs.Prelude.{◌≡◌, ◌<◌, ◌≤◌, ◌+◌, max,
 ghost use Rattle.lsm_below.specs.Entries.{plain};
 ghost use Rattle.lsm_model.specs.Ops.{op_entry};
 ghost use Rattle.lsm_model.specs.declared.op.Op.TheVariants.{Set, Del, Weak};
-ghost use Rattle.lsm_commit.specs.Causes.{HasCause, Blames};
 ghost use Rattle.lsm_state.specs.Flushes.{with_next_table};
 ghost use Rattle.lsm_state.specs.Calls.{Appends, WritesBatch, Rotates};
 ghost use Rattle.lsm_state.specs.Clearing.{Clears, ForgetsUnflushed};
-ghost use Rattle.lsm_tree.specs.Shared.{OnSomeTree, OnSomeTreeAlone, OnSomeStore, AtSomeTree, RefusesSharedRotation};
+ghost use Rattle.lsm_tree.specs.Files.{ClearsFiles};
+ghost use Rattle.lsm_tree.specs.Shared.{OnSomeTreeAlone, AtSomeTree, RefusesSharedRotation, OnSomeTreeFiles};
 
 use crate::handle::Handle;
 use crate::lock::act;
@@ -77,9 +77,7 @@ impl<S: Store> Handle<TreeState<S>> {
 
     /// Clears the tree, as `TreeState::clear`. The lock is held while the version's file is written.
     pub fn clear(&self, rt: &impl Wait) -> Result<SeqNo, Error>
-        ensures clears { OnSomeTree (λ old new. Clears result old new) }
-        // The store is blamed only where a call of it failed.
-        ensures causes { OnSomeStore S (λ old new. HasCause (Blames result) (S.world old) (S.world new)) }
+        ensures { OnSomeTreeFiles S.tells S.world (ClearsFiles result) (λ old new. Clears result old new) }
     {
         act!(self, rt, |tree| tree.clear())
     }

@@ -4,7 +4,7 @@ ghost use Rattle.lsm_pick.specs.declared.choice.Choice.{Choice as ChoiceOf};
 ghost use Rattle.lsm_commit.specs.Causes.{HasCause, Blames};
 ghost use Rattle.lsm_state.specs.Cleaning.{LeavesNoFiles};
 ghost use Rattle.lsm_state.specs.Commits.{Upholds};
-ghost use Rattle.lsm_state.specs.Compactions.{given_up, InstallsOrRests};
+ghost use Rattle.lsm_state.specs.Compactions.{InstallsOrRests};
 ghost use Rattle.lsm_state.specs.Core.{Core};
 ghost use Rattle.lsm_state.specs.CompactionReads.{TellsChoice};
 ghost use Rattle.lsm_journal.specs.Noted.{noted_of, kept_of, BeginsAnswer};
@@ -60,7 +60,7 @@ pub fn begin_chosen<S: Store>(
     // The store is blamed only where a call of it failed, or where the choice does so already.
     ensures causes { (Blames chosen.answer → ⊥) → HasCause (Blames result.0) (S.world tree.old.store) (S.world tree.new.store) }
     // Behind a whole clean-up no file is left of what went.
-    ensures gone { S.tells → IfOk chosen.answer (λ choice. result.0 ≡ Ok Begun.Installed → LeavesNoFiles (S.world tree.new.store) (given_up choice) tree.old.core.history tree.new.core.history) }
+    ensures gone { S.tells → result.0 ≡ Ok Begun.Installed → LeavesNoFiles (S.world tree.new.store) tree.old.core.history tree.new.core.history }
     // Where nothing is installed, and nothing refused, no call of the store is made.
     ensures rests { IfOk result.0 (λ b. InstallsOrRests b tree.old.store tree.new.store) }
     ensures no_call { IsSome tree.old.core.lost → tree.new.store ≡ tree.old.store }

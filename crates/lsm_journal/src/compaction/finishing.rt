@@ -54,7 +54,7 @@ pub fn finish_noting<S: Store>(
     // The store is blamed only where a call of it failed.
     ensures causes { HasCause (Blames result.0) (S.world tree.old.store) (S.world tree.new.store) }
     // Behind a whole clean-up no file is left of what went.
-    ensures gone { S.tells → result.0 ≡ Ok Finished.Installed → LeavesNoFiles (S.world tree.new.store) merged.job.ids tree.old.core.history tree.new.core.history }
+    ensures gone { S.tells → result.0 ≡ Ok Finished.Installed → LeavesNoFiles (S.world tree.new.store) tree.old.core.history tree.new.core.history }
     // Where nothing is installed, and nothing refused, no call of the store is made.
     ensures rests { IfOk result.0 (λ f. EndsOrRests f tree.old.store tree.new.store) }
     // Refused, no table's file is left of what it wrote, unless a call of the store failed, or a version may name it.

@@ -3,7 +3,7 @@ ghost use Rattle.std.specs.Prelude.{◌≡◌, IsSome, IfOk, Ok, length, take};
 ghost use Rattle.lsm_commit.specs.Causes.{HasCause, Blames};
 ghost use Rattle.lsm_state.specs.Cleaning.{LeavesNoFiles, RemovesRefused};
 ghost use Rattle.lsm_state.specs.Commits.{Upholds};
-ghost use Rattle.lsm_state.specs.Compactions.{given_up, InstallsOrRests};
+ghost use Rattle.lsm_state.specs.Compactions.{InstallsOrRests};
 ghost use Rattle.lsm_journal.specs.Noted.{noted_of, CompactsAnswer};
 
 use crate::Chosen;
@@ -34,7 +34,7 @@ pub fn compact_chosen<S: Store>(
     // The store is blamed only where a call of it failed, or where the choice does so already.
     ensures causes { (Blames chosen.answer → ⊥) → HasCause (Blames result.0) (S.world tree.old.store) (S.world tree.new.store) }
     // Behind a whole clean-up no file is left of what went.
-    ensures gone { S.tells → IfOk chosen.answer (λ choice. result.0 ≡ Ok Begun.Installed → LeavesNoFiles (S.world tree.new.store) (given_up choice) tree.old.core.history tree.new.core.history) }
+    ensures gone { S.tells → result.0 ≡ Ok Begun.Installed → LeavesNoFiles (S.world tree.new.store) tree.old.core.history tree.new.core.history }
     // Where nothing is installed, and nothing refused, no call of the store is made.
     ensures rests { IfOk result.0 (λ b. InstallsOrRests b tree.old.store tree.new.store) }
     // Refused, no table's file is left of what it wrote, unless a call of the store failed, or a version may name it.

@@ -3,7 +3,7 @@ ghost use Rattle.std.specs.Prelude.{◌≡◌, ◌⊎◌, IsSome, Ok, IfOk};
 ghost use Rattle.lsm_commit.specs.Causes.{HasCause, Blames};
 ghost use Rattle.lsm_state.specs.Cleaning.{LeavesNoFiles, RemovesRefused};
 ghost use Rattle.lsm_state.specs.Commits.{Upholds};
-ghost use Rattle.lsm_state.specs.Compactions.{Spends, InstallsOrRests, EndsOrRests, given_up, LeavesNoneChosen};
+ghost use Rattle.lsm_state.specs.Compactions.{Spends, InstallsOrRests, EndsOrRests};
 ghost use Rattle.lsm_state.specs.WholeCompactions.{options_at, only_memory, major_choice, drop_choice};
 ghost use Rattle.lsm_journal.specs.Noted.{noted_of, BeginsAnswer, CompactsAnswer};
 ghost use Rattle.lsm_recorded.specs.Flushing.{SpendsUnnoted, RefusesUnnoted};
@@ -41,7 +41,7 @@ impl<S: Store> Recorded<S> {
         ensures begins { RefusesUnnoted result self.old self.new pass.old pass.new ⊎ NotesWhatIsDone (λ events. BeginsAnswer chosen.answer options result events self.old.tree.core self.new.tree.core) self.old self.new pass.old pass.new }
         ensures upholds { S.tells → Upholds (S.world self.old.tree.store) (S.world self.new.tree.store) self.old.tree.core self.new.tree.core }
         ensures causes { (Blames chosen.answer → ⊥) → HasCause (Blames result) (S.world self.old.tree.store) (S.world self.new.tree.store) }
-        ensures gone { S.tells → IfOk chosen.answer (λ choice. result ≡ Ok Begun.Installed → LeavesNoFiles (S.world self.new.tree.store) (given_up choice) self.old.tree.core.history self.new.tree.core.history) }
+        ensures gone { S.tells → result ≡ Ok Begun.Installed → LeavesNoFiles (S.world self.new.tree.store) self.old.tree.core.history self.new.tree.core.history }
         ensures rests { IfOk result (λ b. InstallsOrRests b self.old.tree.store self.new.tree.store) }
         ensures no_call { IsSome self.old.tree.core.lost → self.new.tree.store ≡ self.old.tree.store }
         ensures views { StaysBehind self.old.journal self.new.journal self.old.tree.core self.new.tree.core }
@@ -86,7 +86,7 @@ impl<S: Store> Recorded<S> {
         // The store is blamed only where a call of it failed.
         ensures causes { HasCause (Blames result) (S.world self.old.tree.store) (S.world self.new.tree.store) }
         // Behind a whole clean-up no file is left of what went.
-        ensures gone { S.tells → result ≡ Ok Begun.Installed → LeavesNoneChosen (S.world self.new.tree.store) (may_choose strategy.now) self.old.tree.core self.new.tree.core }
+        ensures gone { S.tells → result ≡ Ok Begun.Installed → LeavesNoFiles (S.world self.new.tree.store) self.old.tree.core.history self.new.tree.core.history }
         // Where nothing is installed, and nothing refused, no call of the store is made.
         ensures rests { IfOk result (λ b. InstallsOrRests b self.old.tree.store self.new.tree.store) }
         ensures no_call { IsSome self.old.tree.core.lost → self.new.tree.store ≡ self.old.tree.store }
@@ -119,7 +119,7 @@ impl<S: Store> Recorded<S> {
         // The store is blamed only where a call of it failed.
         ensures causes { HasCause (Blames result) (S.world self.old.tree.store) (S.world self.new.tree.store) }
         // Behind a whole clean-up no file is left of what went.
-        ensures gone { S.tells → result ≡ Ok Finished.Installed → LeavesNoFiles (S.world self.new.tree.store) merged.job.ids self.old.tree.core.history self.new.tree.core.history }
+        ensures gone { S.tells → result ≡ Ok Finished.Installed → LeavesNoFiles (S.world self.new.tree.store) self.old.tree.core.history self.new.tree.core.history }
         // Where nothing is installed, and nothing refused, no call of the store is made.
         ensures rests { IfOk result (λ f. EndsOrRests f self.old.tree.store self.new.tree.store) }
         // Refused, no table's file is left of what it wrote, unless a call of the store failed, or a version may name it.
@@ -174,7 +174,7 @@ impl<S: Store> Recorded<S> {
         ensures compacts { RefusesUnnoted result self.old self.new pass.old pass.new ⊎ NotesWhatIsDone (λ events. CompactsAnswer chosen.answer options result events self.old.tree.core self.new.tree.core) self.old self.new pass.old pass.new }
         ensures upholds { S.tells → Upholds (S.world self.old.tree.store) (S.world self.new.tree.store) self.old.tree.core self.new.tree.core }
         ensures causes { (Blames chosen.answer → ⊥) → HasCause (Blames result) (S.world self.old.tree.store) (S.world self.new.tree.store) }
-        ensures gone { S.tells → IfOk chosen.answer (λ choice. result ≡ Ok Begun.Installed → LeavesNoFiles (S.world self.new.tree.store) (given_up choice) self.old.tree.core.history self.new.tree.core.history) }
+        ensures gone { S.tells → result ≡ Ok Begun.Installed → LeavesNoFiles (S.world self.new.tree.store) self.old.tree.core.history self.new.tree.core.history }
         ensures rests { IfOk result (λ b. InstallsOrRests b self.old.tree.store self.new.tree.store) }
         ensures refused { S.tells → RemovesRefused result self.old.tree.core self.new.tree.core (S.world self.old.tree.store) (S.world self.new.tree.store) }
         ensures no_call { IsSome self.old.tree.core.lost → self.new.tree.store ≡ self.old.tree.store }
@@ -219,7 +219,7 @@ impl<S: Store> Recorded<S> {
         // The store is blamed only where a call of it failed.
         ensures causes { HasCause (Blames result) (S.world self.old.tree.store) (S.world self.new.tree.store) }
         // Behind a whole clean-up no file is left of what went.
-        ensures gone { S.tells → result ≡ Ok Begun.Installed → LeavesNoneChosen (S.world self.new.tree.store) (may_choose strategy.now) self.old.tree.core self.new.tree.core }
+        ensures gone { S.tells → result ≡ Ok Begun.Installed → LeavesNoFiles (S.world self.new.tree.store) self.old.tree.core.history self.new.tree.core.history }
         // Where nothing is installed, and nothing refused, no call of the store is made.
         ensures rests { IfOk result (λ b. InstallsOrRests b self.old.tree.store self.new.tree.store) }
         // Refused, no table's file is left of what it wrote, unless a call of the store failed, or a version may name it.
@@ -249,7 +249,7 @@ impl<S: Store> Recorded<S> {
         // The store is blamed only where a call of it failed.
         ensures causes { HasCause (Blames result) (S.world self.old.tree.store) (S.world self.new.tree.store) }
         // Behind a whole clean-up no file is left of what went.
-        ensures gone { S.tells → result ≡ Ok Begun.Installed → LeavesNoneChosen (S.world self.new.tree.store) (C.may_choose strategy.now) self.old.tree.core self.new.tree.core }
+        ensures gone { S.tells → result ≡ Ok Begun.Installed → LeavesNoFiles (S.world self.new.tree.store) self.old.tree.core.history self.new.tree.core.history }
         // Where nothing is installed, and nothing refused, no call of the store is made.
         ensures rests { IfOk result (λ b. InstallsOrRests b self.old.tree.store self.new.tree.store) }
         // Refused, no table's file is left of what it wrote, unless a call of the store failed, or a version may name it.
@@ -284,7 +284,7 @@ impl<S: Store> Recorded<S> {
         // The store is blamed only where a call of it failed.
         ensures causes { HasCause (Blames result) (S.world self.old.tree.store) (S.world self.new.tree.store) }
         // Behind a whole clean-up no file is left of what went.
-        ensures gone { S.tells → result ≡ Ok Begun.Installed → LeavesNoneChosen (S.world self.new.tree.store) (may_choose strategy.now) self.old.tree.core self.new.tree.core }
+        ensures gone { S.tells → result ≡ Ok Begun.Installed → LeavesNoFiles (S.world self.new.tree.store) self.old.tree.core.history self.new.tree.core.history }
         // Where nothing is installed, and nothing refused, no call of the store is made.
         ensures rests { IfOk result (λ b. InstallsOrRests b self.old.tree.store self.new.tree.store) }
         // Refused, no table's file is left of what it wrote, unless a call of the store failed, or a version may name it.
@@ -314,7 +314,7 @@ impl<S: Store> Recorded<S> {
         // The store is blamed only where a call of it failed.
         ensures causes { HasCause (Blames result) (S.world self.old.tree.store) (S.world self.new.tree.store) }
         // Behind a whole clean-up no file is left of what went.
-        ensures gone { S.tells → result ≡ Ok Begun.Installed → LeavesNoneChosen (S.world self.new.tree.store) (major_choice target) self.old.tree.core self.new.tree.core }
+        ensures gone { S.tells → result ≡ Ok Begun.Installed → LeavesNoFiles (S.world self.new.tree.store) self.old.tree.core.history self.new.tree.core.history }
         // Where nothing is installed, and nothing refused, no call of the store is made.
         ensures rests { IfOk result (λ b. InstallsOrRests b self.old.tree.store self.new.tree.store) }
         // Refused, no table's file is left of what it wrote, unless a call of the store failed, or a version may name it.
@@ -340,7 +340,7 @@ impl<S: Store> Recorded<S> {
         // The store is blamed only where a call of it failed.
         ensures causes { HasCause (Blames result) (S.world self.old.tree.store) (S.world self.new.tree.store) }
         // Behind a whole clean-up no file is left of what went.
-        ensures gone { S.tells → result ≡ Ok Begun.Installed → LeavesNoneChosen (S.world self.new.tree.store) (drop_choice bounds) self.old.tree.core self.new.tree.core }
+        ensures gone { S.tells → result ≡ Ok Begun.Installed → LeavesNoFiles (S.world self.new.tree.store) self.old.tree.core.history self.new.tree.core.history }
         // Where nothing is installed, and nothing refused, no call of the store is made.
         ensures rests { IfOk result (λ b. InstallsOrRests b self.old.tree.store self.new.tree.store) }
         // Refused, no table's file is left of what it wrote, unless a call of the store failed, or a version may name it.

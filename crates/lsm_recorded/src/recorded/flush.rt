@@ -2,7 +2,7 @@
 ghost use Rattle.std.specs.Prelude.{◌≡◌, ◌⊎◌, ◌<◌, [], None, map, true, false, IsSome, IfOk, IfErr, IfSome, IsErrOf};
 ghost use Rattle.lsm_commit.specs.Causes.{HasCause};
 ghost use Rattle.lsm_state.specs.Causes.{BlamesBeside, BlamesOrUnclean, BlamesOrUncleanFlush, BlamesOrUncleanBehind};
-ghost use Rattle.lsm_state.specs.Cleaning.{LeavesNoFiles, RemovesDrawn, RemovesTables};
+ghost use Rattle.lsm_state.specs.Cleaning.{LeavesNoVersions, RemovesDrawn, RemovesTables};
 ghost use Rattle.lsm_state.specs.Commits.{Upholds};
 ghost use Rattle.lsm_state.specs.Flushes.{Begins, IsCurrent, WritesTables, spent};
 ghost use Rattle.lsm_state.specs.WholeFlushes.{FlushesActive};
@@ -99,7 +99,7 @@ impl<S: Store> Recorded<S> {
         // The store is blamed only where a call of it failed.
         ensures causes { HasCause (BlamesOrUnclean result) (S.world self.old.tree.store) (S.world self.new.tree.store) }
         // Behind a whole clean-up no file is left of what went.
-        ensures gone { S.tells → IfOk result (λ a. a.installed ≡ true → a.cleaned ≡ true → LeavesNoFiles (S.world self.new.tree.store) [] self.old.tree.core.history self.new.tree.core.history) }
+        ensures gone { S.tells → IfOk result (λ a. a.installed ≡ true → a.cleaned ≡ true → LeavesNoVersions (S.world self.new.tree.store) self.old.tree.core.history self.new.tree.core.history) }
         // Where the job is stale, no call of the store is made.
         ensures rests { IfOk result (λ a. a.installed ≡ false → self.new.tree.store ≡ self.old.tree.store) }
         // Where the counter or the level was full, no file is left of a current job, unless a call of the store failed.
@@ -146,7 +146,7 @@ impl<S: Store> Recorded<S> {
         // The store is blamed only where a call of it failed.
         ensures causes { HasCause (BlamesOrUncleanFlush result) (S.world self.old.tree.store) (S.world self.new.tree.store) }
         // Behind a whole clean-up no file is left of what went.
-        ensures gone { S.tells → IfOk result (λ a. IfSome a (λ p. p.1.cleaned ≡ true → LeavesNoFiles (S.world self.new.tree.store) [] self.old.tree.core.history self.new.tree.core.history)) }
+        ensures gone { S.tells → IfOk result (λ a. IfSome a (λ p. p.1.cleaned ≡ true → LeavesNoVersions (S.world self.new.tree.store) self.old.tree.core.history self.new.tree.core.history)) }
         // Where nothing is sealed no call of the store is made.
         ensures rests { IfOk result (λ a. a ≡ None → self.new.tree.store ≡ self.old.tree.store) }
         // Refused, no table's file is left of what it wrote, unless a call of the store failed, or the outcome of a commit is
@@ -194,7 +194,9 @@ impl<S: Store> Recorded<S> {
         // The store is blamed only where a call of it failed.
         ensures causes { HasCause (BlamesOrUncleanBehind result) (S.world self.old.tree.store) (S.world self.new.tree.store) }
         // Behind a whole clean-up no file is left of what went.
-        ensures gone { S.tells → IfOk result (λ a. IfSome a.1 (λ p. p.1.cleaned ≡ true → LeavesNoFiles (S.world self.new.tree.store) [] self.old.tree.core.history self.new.tree.core.history)) }
+        ensures gone { S.tells → IfOk result (λ a. IfSome a.1 (λ p. p.1.cleaned ≡ true → LeavesNoVersions (S.world self.new.tree.store) self.old.tree.core.history self.new.tree.core.history)) }
+        // Where nothing is flushed no call of the store is made.
+        ensures rests { IfOk result (λ a. a.1 ≡ None → self.new.tree.store ≡ self.old.tree.store) }
         // Refused, no table's file is left of what it wrote, unless a call of the store failed, or the outcome of a commit is
         // unknown.
         ensures refused { S.tells → self.old.tree.core.next_table < LIMIT → IfErr result (λ e. (e.0 ≡ Error.CommitUnknown → ⊥) → RemovesDrawn self.old.tree.core.next_table self.new.tree.core.next_table (S.world self.old.tree.store) (S.world self.new.tree.store)) }

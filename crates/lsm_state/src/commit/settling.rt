@@ -92,7 +92,7 @@ impl<S: Store> TreeState<S> {
         ensures upholds { S.tells → AreOnDisk (S.world self.old.store) (all_of version.levels) → UpholdsFiles (S.world self.old.store) (S.world self.new.store) self.old.core self.new.core }
         ensures passes { S.tells → Passes (S.world self.old.store) (S.world self.new.store) }
         ensures causes { HasCause (Blames result) (S.world self.old.store) (S.world self.new.store) }
-        ensures gone { S.tells → OnOk result (LeavesNoFiles (S.world self.new.store) gone.now.keys self.old.core.history self.new.core.history) }
+        ensures gone { S.tells → OnOk result (LeavesNoFiles (S.world self.new.store) self.old.core.history self.new.core.history) }
     {
         crashes_leave_versions(&self.store);
         let latest = self.history.latest_version();

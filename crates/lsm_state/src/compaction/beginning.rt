@@ -6,7 +6,7 @@ ghost use Rattle.lsm_commit.specs.Causes.{HasCause, Blames};
 ghost use Rattle.lsm_state.specs.Cleaning.{LeavesNoFiles};
 ghost use Rattle.lsm_state.specs.Commits.{Upholds};
 ghost use Rattle.lsm_state.specs.Settling.{MaySettle, HasItsTables};
-ghost use Rattle.lsm_state.specs.Compactions.{hidden_in, levels_of, reason_of, IsPossible, IsMovedTo, IsDroppedFrom, IsNotMoved, IsNotDropped, InstallsChoice, OpensMerge, Does, BeginsChoice, BeginsCompaction, MayAnswer, error_of, given_up, LeavesNoneChosen, InstallsOrRests};
+ghost use Rattle.lsm_state.specs.Compactions.{hidden_in, levels_of, reason_of, IsPossible, IsMovedTo, IsDroppedFrom, IsNotMoved, IsNotDropped, InstallsChoice, OpensMerge, Does, BeginsChoice, BeginsCompaction, MayAnswer, error_of, InstallsOrRests};
 ghost use Rattle.lsm_state.specs.CompactionDeeds.{ChoiceDeeds};
 
 use crate::{Begun, Options, TreeState, compactions_are_deeds};
@@ -108,7 +108,7 @@ impl<S: Store> TreeState<S> {
         ensures installs { InstallsChoice (IsMovedTo input.now self.old.core.history.latest.version) (IsNotMoved input.now self.old.core.history.latest.version) options.mvcc_gc_watermark result self.old.core self.new.core }
         ensures upholds { S.tells → Upholds (S.world self.old.store) (S.world self.new.store) self.old.core self.new.core }
         ensures causes { HasCause (Blames result) (S.world self.old.store) (S.world self.new.store) }
-        ensures gone { S.tells → OnOk result (LeavesNoFiles (S.world self.new.store) [] self.old.core.history self.new.core.history) }
+        ensures gone { S.tells → OnOk result (LeavesNoFiles (S.world self.new.store) self.old.core.history self.new.core.history) }
         ensures rests { IfOk result (λ b. InstallsOrRests b self.old.store self.new.store) }
     {
         self.is_upheld();
@@ -133,7 +133,7 @@ impl<S: Store> TreeState<S> {
         ensures installs { InstallsChoice (IsDroppedFrom ids.now.keys self.old.core.history.latest.version) (IsNotDropped ids.now.keys self.old.core.history.latest.version) options.mvcc_gc_watermark result self.old.core self.new.core }
         ensures upholds { S.tells → Upholds (S.world self.old.store) (S.world self.new.store) self.old.core self.new.core }
         ensures causes { HasCause (Blames result) (S.world self.old.store) (S.world self.new.store) }
-        ensures gone { S.tells → OnOk result (LeavesNoFiles (S.world self.new.store) ids.now.keys self.old.core.history self.new.core.history) }
+        ensures gone { S.tells → OnOk result (LeavesNoFiles (S.world self.new.store) self.old.core.history self.new.core.history) }
         ensures rests { IfOk result (λ b. InstallsOrRests b self.old.store self.new.store) }
     {
         self.is_upheld();
@@ -188,7 +188,7 @@ impl<S: Store> TreeState<S> {
         ensures does { Does choice options result self.old.core self.new.core }
         ensures upholds { S.tells → Upholds (S.world self.old.store) (S.world self.new.store) self.old.core self.new.core }
         ensures causes { HasCause (Blames result) (S.world self.old.store) (S.world self.new.store) }
-        ensures gone { S.tells → result ≡ Ok Begun.Installed → LeavesNoFiles (S.world self.new.store) (given_up choice) self.old.core.history self.new.core.history }
+        ensures gone { S.tells → result ≡ Ok Begun.Installed → LeavesNoFiles (S.world self.new.store) self.old.core.history self.new.core.history }
         ensures rests { IfOk result (λ b. InstallsOrRests b self.old.store self.new.store) }
     {
         self.is_upheld();
@@ -205,7 +205,7 @@ impl<S: Store> TreeState<S> {
         ensures begins { BeginsChoice choice options result self.old.core self.new.core }
         ensures upholds { S.tells → Upholds (S.world self.old.store) (S.world self.new.store) self.old.core self.new.core }
         ensures causes { HasCause (Blames result) (S.world self.old.store) (S.world self.new.store) }
-        ensures gone { S.tells → result ≡ Ok Begun.Installed → LeavesNoFiles (S.world self.new.store) (given_up choice) self.old.core.history self.new.core.history }
+        ensures gone { S.tells → result ≡ Ok Begun.Installed → LeavesNoFiles (S.world self.new.store) self.old.core.history self.new.core.history }
         ensures rests { IfOk result (λ b. InstallsOrRests b self.old.store self.new.store) }
         ensures no_call { IsSome self.old.core.lost → self.new.store ≡ self.old.store }
     {
@@ -237,7 +237,7 @@ impl<S: Store> TreeState<S> {
         // The store is blamed only where a call of it failed.
         ensures causes { HasCause (Blames result) (S.world self.old.store) (S.world self.new.store) }
         // Behind a whole clean-up no file is left of what went.
-        ensures gone { S.tells → result ≡ Ok Begun.Installed → LeavesNoFiles (S.world self.new.store) (given_up choice) self.old.core.history self.new.core.history }
+        ensures gone { S.tells → result ≡ Ok Begun.Installed → LeavesNoFiles (S.world self.new.store) self.old.core.history self.new.core.history }
         // Where nothing is installed, and nothing refused, no call of the store is made.
         ensures rests { IfOk result (λ b. InstallsOrRests b self.old.store self.new.store) }
         ensures no_call { IsSome self.old.core.lost → self.new.store ≡ self.old.store }
@@ -278,7 +278,7 @@ impl<S: Store> TreeState<S> {
         ensures same { IfErr chosen (λ e. self.new.core ≡ self.old.core) }
         ensures upholds { S.tells → Upholds (S.world self.old.store) (S.world self.new.store) self.old.core self.new.core }
         ensures causes { HasCause (Blames result) (S.world self.old.store) (S.world self.new.store) }
-        ensures gone { S.tells → IfOk chosen (λ choice. result ≡ Ok Begun.Installed → LeavesNoFiles (S.world self.new.store) (given_up choice) self.old.core.history self.new.core.history) }
+        ensures gone { S.tells → result ≡ Ok Begun.Installed → LeavesNoFiles (S.world self.new.store) self.old.core.history self.new.core.history }
         ensures rests { IfOk result (λ b. InstallsOrRests b self.old.store self.new.store) }
     {
         self.is_upheld();
@@ -306,7 +306,7 @@ impl<S: Store> TreeState<S> {
         // The store is blamed only where a call of it failed.
         ensures causes { HasCause (Blames result) (S.world self.old.store) (S.world self.new.store) }
         // Behind a whole clean-up no file is left of what went.
-        ensures gone { S.tells → result ≡ Ok Begun.Installed → LeavesNoneChosen (S.world self.new.store) (may_choose strategy.now) self.old.core self.new.core }
+        ensures gone { S.tells → result ≡ Ok Begun.Installed → LeavesNoFiles (S.world self.new.store) self.old.core.history self.new.core.history }
         // Where nothing is installed, and nothing refused, no call of the store is made.
         ensures rests { IfOk result (λ b. InstallsOrRests b self.old.store self.new.store) }
         ensures no_call { IsSome self.old.core.lost → self.new.store ≡ self.old.store }
@@ -331,7 +331,7 @@ impl<S: Store> TreeState<S> {
         // The store is blamed only where a call of it failed.
         ensures causes { HasCause (Blames result) (S.world self.old.store) (S.world self.new.store) }
         // Behind a whole clean-up no file is left of what went.
-        ensures gone { S.tells → result ≡ Ok Begun.Installed → LeavesNoneChosen (S.world self.new.store) (C.may_choose strategy.now) self.old.core self.new.core }
+        ensures gone { S.tells → result ≡ Ok Begun.Installed → LeavesNoFiles (S.world self.new.store) self.old.core.history self.new.core.history }
         // Where nothing is installed, and nothing refused, no call of the store is made.
         ensures rests { IfOk result (λ b. InstallsOrRests b self.old.store self.new.store) }
         ensures no_call { IsSome self.old.core.lost → self.new.store ≡ self.old.store }

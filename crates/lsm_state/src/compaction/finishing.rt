@@ -141,7 +141,7 @@ impl<S: Store> TreeState<S> {
         ensures done { IfOk result (λ f. f ≡ Finished.Installed) }
         ensures upholds { S.tells → Upholds (S.world self.old.store) (S.world self.new.store) self.old.core self.new.core }
         ensures causes { HasCause (Blames result) (S.world self.old.store) (S.world self.new.store) }
-        ensures gone { S.tells → OnOk result (LeavesNoFiles (S.world self.new.store) merged.now.job.ids self.old.core.history self.new.core.history) }
+        ensures gone { S.tells → OnOk result (LeavesNoFiles (S.world self.new.store) self.old.core.history self.new.core.history) }
         ensures rests { IfOk result (λ f. EndsOrRests f self.old.store self.new.store) }
     {
         self.is_upheld();
@@ -172,7 +172,7 @@ impl<S: Store> TreeState<S> {
         ensures done { IfOk result (λ f. f ≡ Finished.Installed) }
         ensures upholds { S.tells → Upholds (S.world self.old.store) (S.world self.new.store) self.old.core self.new.core }
         ensures causes { HasCause (Blames result) (S.world self.old.store) (S.world self.new.store) }
-        ensures gone { S.tells → OnOk result (LeavesNoFiles (S.world self.new.store) merged.now.job.ids self.old.core.history self.new.core.history) }
+        ensures gone { S.tells → OnOk result (LeavesNoFiles (S.world self.new.store) self.old.core.history self.new.core.history) }
         ensures rests { IfOk result (λ f. EndsOrRests f self.old.store self.new.store) }
         ensures refused { S.tells → RemovesRefused result self.old.core self.new.core (S.world self.old.store) (S.world self.new.store) }
     {
@@ -211,7 +211,7 @@ impl<S: Store> TreeState<S> {
         ensures ends { Ends merged.now.job result self.old.core self.new.core }
         ensures upholds { S.tells → Upholds (S.world self.old.store) (S.world self.new.store) self.old.core self.new.core }
         ensures causes { HasCause (Blames result) (S.world self.old.store) (S.world self.new.store) }
-        ensures gone { S.tells → result ≡ Ok Finished.Installed → LeavesNoFiles (S.world self.new.store) merged.now.job.ids self.old.core.history self.new.core.history }
+        ensures gone { S.tells → result ≡ Ok Finished.Installed → LeavesNoFiles (S.world self.new.store) self.old.core.history self.new.core.history }
         ensures rests { IfOk result (λ f. EndsOrRests f self.old.store self.new.store) }
         ensures refused { S.tells → RemovesRefused result self.old.core self.new.core (S.world self.old.store) (S.world self.new.store) }
     {
@@ -231,7 +231,7 @@ impl<S: Store> TreeState<S> {
         ensures finishes { Finishes merged.job result self.old.core self.new.core }
         ensures upholds { S.tells → Upholds (S.world self.old.store) (S.world self.new.store) self.old.core self.new.core }
         ensures causes { HasCause (Blames result) (S.world self.old.store) (S.world self.new.store) }
-        ensures gone { S.tells → result ≡ Ok Finished.Installed → LeavesNoFiles (S.world self.new.store) merged.job.ids self.old.core.history self.new.core.history }
+        ensures gone { S.tells → result ≡ Ok Finished.Installed → LeavesNoFiles (S.world self.new.store) self.old.core.history self.new.core.history }
         ensures rests { IfOk result (λ f. EndsOrRests f self.old.store self.new.store) }
         ensures refused { S.tells → RemovesRefused result self.old.core self.new.core (S.world self.old.store) (S.world self.new.store) }
         ensures no_call { IsSome self.old.core.lost → self.new.store ≡ self.old.store }
@@ -268,7 +268,7 @@ impl<S: Store> TreeState<S> {
         // The store is blamed only where a call of it failed.
         ensures causes { HasCause (Blames result) (S.world self.old.store) (S.world self.new.store) }
         // Behind a whole clean-up no file is left of what went.
-        ensures gone { S.tells → result ≡ Ok Finished.Installed → LeavesNoFiles (S.world self.new.store) merged.job.ids self.old.core.history self.new.core.history }
+        ensures gone { S.tells → result ≡ Ok Finished.Installed → LeavesNoFiles (S.world self.new.store) self.old.core.history self.new.core.history }
         // Where nothing is installed, and nothing refused, no call of the store is made.
         ensures rests { IfOk result (λ f. EndsOrRests f self.old.store self.new.store) }
         // Refused, no table's file is left of what it wrote, unless a call of the store failed, or a version may name it.
@@ -288,7 +288,7 @@ impl<S: Store> TreeState<S> {
         ensures finishes { Finishes merged.job result self.old.core self.new.core }
         ensures upholds { S.tells → Upholds (S.world self.old.store) (S.world self.new.store) self.old.core self.new.core }
         ensures causes { HasCause (Blames result) (S.world self.old.store) (S.world self.new.store) }
-        ensures gone { S.tells → result ≡ Ok Finished.Installed → LeavesNoFiles (S.world self.new.store) merged.job.ids self.old.core.history self.new.core.history }
+        ensures gone { S.tells → result ≡ Ok Finished.Installed → LeavesNoFiles (S.world self.new.store) self.old.core.history self.new.core.history }
         ensures rests { IfOk result (λ f. EndsOrRests f self.old.store self.new.store) }
         ensures refused { S.tells → RemovesRefused result self.old.core self.new.core (S.world self.old.store) (S.world self.new.store) }
         ensures no_call { IsSome self.old.core.lost → self.new.store ≡ self.old.store }

@@ -6,7 +6,7 @@ ghost use Rattle.lsm_compaction.specs.Merges.{SeenCompaction};
 ghost use Rattle.lsm_state.specs.declared.compaction.Begun.TheVariants.{Job};
 ghost use Rattle.lsm_state.specs.Cleaning.{LeavesNoFiles, RemovesRefused};
 ghost use Rattle.lsm_state.specs.Commits.{Upholds};
-ghost use Rattle.lsm_state.specs.Compactions.{given_up, LeavesNoneChosen, InstallsOrRests};
+ghost use Rattle.lsm_state.specs.Compactions.{InstallsOrRests};
 ghost use Rattle.lsm_state.specs.OwnInputs.{HasOwnInputs, BeganHere};
 ghost use Rattle.lsm_state.specs.WholeCompactions.{Completes, Follows, CompactsChoice, Compacts, DropsRange, options_at, only_memory, major_choice, drop_choice};
 
@@ -24,7 +24,7 @@ impl<S: Store> TreeState<S> {
         ensures completes { Completes job result self.old.core self.new.core }
         ensures upholds { S.tells → Upholds (S.world self.old.store) (S.world self.new.store) self.old.core self.new.core }
         ensures causes { HasCause (Blames result) (S.world self.old.store) (S.world self.new.store) }
-        ensures gone { S.tells → result ≡ Ok Begun.Installed → LeavesNoFiles (S.world self.new.store) job.ids self.old.core.history self.new.core.history }
+        ensures gone { S.tells → result ≡ Ok Begun.Installed → LeavesNoFiles (S.world self.new.store) self.old.core.history self.new.core.history }
         ensures rests { IfOk result (λ b. InstallsOrRests b self.old.store self.new.store) }
         ensures refused { S.tells → RemovesRefused result self.old.core self.new.core (S.world self.old.store) (S.world self.new.store) }
         ensures no_call { IsSome self.old.core.lost → self.new.store ≡ self.old.store }
@@ -49,7 +49,7 @@ impl<S: Store> TreeState<S> {
         ensures follows { Follows begun result self.old.core self.new.core }
         ensures upholds { S.tells → Upholds (S.world self.old.store) (S.world self.new.store) self.old.core self.new.core }
         ensures causes { HasCause (BlamesEnd begun result) (S.world self.old.store) (S.world self.new.store) }
-        ensures gone { S.tells → (job : SeenCompaction) → begun ≡ Ok (Job job) → result ≡ Ok Begun.Installed → LeavesNoFiles (S.world self.new.store) job.ids self.old.core.history self.new.core.history }
+        ensures gone { S.tells → (job : SeenCompaction) → begun ≡ Ok (Job job) → result ≡ Ok Begun.Installed → LeavesNoFiles (S.world self.new.store) self.old.core.history self.new.core.history }
         ensures done { begun ≡ Ok Begun.Installed → self.new.store ≡ self.old.store }
         ensures rests { IfOk result (λ b. InstallsOrRests b self.old.store self.new.store) }
         ensures refused { S.tells → RemovesRefused result self.old.core self.new.core (S.world self.old.store) (S.world self.new.store) }
@@ -79,7 +79,7 @@ impl<S: Store> TreeState<S> {
         // The store is blamed only where a call of it failed.
         ensures causes { HasCause (Blames result) (S.world self.old.store) (S.world self.new.store) }
         // Behind a whole clean-up no file is left of what went.
-        ensures gone { S.tells → result ≡ Ok Begun.Installed → LeavesNoFiles (S.world self.new.store) (given_up choice) self.old.core.history self.new.core.history }
+        ensures gone { S.tells → result ≡ Ok Begun.Installed → LeavesNoFiles (S.world self.new.store) self.old.core.history self.new.core.history }
         // Where nothing is installed, and nothing refused, no call of the store is made.
         ensures rests { IfOk result (λ b. InstallsOrRests b self.old.store self.new.store) }
         // Refused, no table's file is left of what it wrote, unless a call of the store failed, or a version may name it.
@@ -103,7 +103,7 @@ impl<S: Store> TreeState<S> {
         // The store is blamed only where a call of it failed.
         ensures causes { HasCause (Blames result) (S.world self.old.store) (S.world self.new.store) }
         // Behind a whole clean-up no file is left of what went.
-        ensures gone { S.tells → result ≡ Ok Begun.Installed → LeavesNoneChosen (S.world self.new.store) (C.may_choose strategy.now) self.old.core self.new.core }
+        ensures gone { S.tells → result ≡ Ok Begun.Installed → LeavesNoFiles (S.world self.new.store) self.old.core.history self.new.core.history }
         // Where nothing is installed, and nothing refused, no call of the store is made.
         ensures rests { IfOk result (λ b. InstallsOrRests b self.old.store self.new.store) }
         // Refused, no table's file is left of what it wrote, unless a call of the store failed, or a version may name it.
@@ -141,7 +141,7 @@ impl<S: Store> TreeState<S> {
         // The store is blamed only where a call of it failed.
         ensures causes { HasCause (Blames result) (S.world self.old.store) (S.world self.new.store) }
         // Behind a whole clean-up no file is left of what went.
-        ensures gone { S.tells → result ≡ Ok Begun.Installed → LeavesNoneChosen (S.world self.new.store) (may_choose strategy.now) self.old.core self.new.core }
+        ensures gone { S.tells → result ≡ Ok Begun.Installed → LeavesNoFiles (S.world self.new.store) self.old.core.history self.new.core.history }
         // Where nothing is installed, and nothing refused, no call of the store is made.
         ensures rests { IfOk result (λ b. InstallsOrRests b self.old.store self.new.store) }
         // Refused, no table's file is left of what it wrote, unless a call of the store failed, or a version may name it.
@@ -165,7 +165,7 @@ impl<S: Store> TreeState<S> {
         // The store is blamed only where a call of it failed.
         ensures causes { HasCause (Blames result) (S.world self.old.store) (S.world self.new.store) }
         // Behind a whole clean-up no file is left of what went.
-        ensures gone { S.tells → result ≡ Ok Begun.Installed → LeavesNoneChosen (S.world self.new.store) (major_choice target) self.old.core self.new.core }
+        ensures gone { S.tells → result ≡ Ok Begun.Installed → LeavesNoFiles (S.world self.new.store) self.old.core.history self.new.core.history }
         // Where nothing is installed, and nothing refused, no call of the store is made.
         ensures rests { IfOk result (λ b. InstallsOrRests b self.old.store self.new.store) }
         // Refused, no table's file is left of what it wrote, unless a call of the store failed, or a version may name it.
@@ -190,7 +190,7 @@ impl<S: Store> TreeState<S> {
         // The store is blamed only where a call of it failed.
         ensures causes { HasCause (Blames result) (S.world self.old.store) (S.world self.new.store) }
         // Behind a whole clean-up no file is left of what went.
-        ensures gone { S.tells → result ≡ Ok Begun.Installed → LeavesNoneChosen (S.world self.new.store) (drop_choice bounds) self.old.core self.new.core }
+        ensures gone { S.tells → result ≡ Ok Begun.Installed → LeavesNoFiles (S.world self.new.store) self.old.core.history self.new.core.history }
         // Where nothing is installed, and nothing refused, no call of the store is made.
         ensures rests { IfOk result (λ b. InstallsOrRests b self.old.store self.new.store) }
         // Refused, no table's file is left of what it wrote, unless a call of the store failed, or a version may name it.
@@ -228,7 +228,7 @@ pub fn do_compaction<S: Store>(
     // The store is blamed only where a call of it failed.
     ensures causes { HasCause (Blames result) (S.world tree.old.store) (S.world tree.new.store) }
     // Behind a whole clean-up no file is left of what went.
-    ensures gone { S.tells → result ≡ Ok Begun.Installed → LeavesNoneChosen (S.world tree.new.store) (may_choose strategy.now) tree.old.core tree.new.core }
+    ensures gone { S.tells → result ≡ Ok Begun.Installed → LeavesNoFiles (S.world tree.new.store) tree.old.core.history tree.new.core.history }
     // Where nothing is installed, and nothing refused, no call of the store is made.
     ensures rests { IfOk result (λ b. InstallsOrRests b tree.old.store tree.new.store) }
     // Refused, no table's file is left of what it wrote, unless a call of the store failed, or a version may name it.

@@ -8,7 +8,7 @@ ghost use Rattle.lsm_below.specs.Runs.{IsRun};
 ghost use Rattle.lsm_commit.specs.Stored.{AreOnDisk};
 ghost use Rattle.lsm_flush.specs.Jobs.{ids_in, entries_in};
 ghost use Rattle.lsm_commit.specs.Causes.{HasCause};
-ghost use Rattle.lsm_state.specs.Cleaning.{LeavesNoFiles, RemovesTables};
+ghost use Rattle.lsm_state.specs.Cleaning.{LeavesNoVersions, RemovesTables};
 ghost use Rattle.lsm_state.specs.Causes.{BlamesOrUnclean};
 ghost use Rattle.lsm_parts.specs.Held.{entries_of};
 ghost use Rattle.lsm_commit.specs.Foreign.{Passes};
@@ -150,7 +150,7 @@ impl<S: Store> TreeState<S> {
         ensures upholds { S.tells → AreOnDisk (S.world self.old.store) job.now.tables → UpholdsFiles (S.world self.old.store) (S.world self.new.store) self.old.core self.new.core }
         ensures passes { S.tells → Passes (S.world self.old.store) (S.world self.new.store) }
         ensures causes { HasCause (BlamesOrUnclean result) (S.world self.old.store) (S.world self.new.store) }
-        ensures gone { S.tells → IfOk result (λ a. a.cleaned ≡ true → LeavesNoFiles (S.world self.new.store) [] self.old.core.history self.new.core.history) }
+        ensures gone { S.tells → IfOk result (λ a. a.cleaned ≡ true → LeavesNoVersions (S.world self.new.store) self.old.core.history self.new.core.history) }
         ensures rests { IfOk result (λ a. a.installed ≡ false → self.new.store ≡ self.old.store) }
     {
         crashes_leave_versions(&self.store);
@@ -174,7 +174,7 @@ impl<S: Store> TreeState<S> {
         ensures registers { Registers job result self.old.core self.new.core }
         ensures upholds { S.tells → Upholds (S.world self.old.store) (S.world self.new.store) self.old.core self.new.core }
         ensures causes { HasCause (BlamesOrUnclean result) (S.world self.old.store) (S.world self.new.store) }
-        ensures gone { S.tells → IfOk result (λ a. a.installed ≡ true → a.cleaned ≡ true → LeavesNoFiles (S.world self.new.store) [] self.old.core.history self.new.core.history) }
+        ensures gone { S.tells → IfOk result (λ a. a.installed ≡ true → a.cleaned ≡ true → LeavesNoVersions (S.world self.new.store) self.old.core.history self.new.core.history) }
         ensures rests { IfOk result (λ a. a.installed ≡ false → self.new.store ≡ self.old.store) }
         ensures no_call { IsSome self.old.core.lost → self.new.store ≡ self.old.store }
         ensures marks { IsMarkDeed job.watermark self.old.core (spent job.job.number self.old.core) }
@@ -206,7 +206,7 @@ impl<S: Store> TreeState<S> {
         ensures registers { Registers job result self.old.core self.new.core }
         ensures upholds { S.tells → Upholds (S.world self.old.store) (S.world self.new.store) self.old.core self.new.core }
         ensures causes { HasCause (BlamesOrUnclean result) (S.world self.old.store) (S.world self.new.store) }
-        ensures gone { S.tells → IfOk result (λ a. a.installed ≡ true → a.cleaned ≡ true → LeavesNoFiles (S.world self.new.store) [] self.old.core.history self.new.core.history) }
+        ensures gone { S.tells → IfOk result (λ a. a.installed ≡ true → a.cleaned ≡ true → LeavesNoVersions (S.world self.new.store) self.old.core.history self.new.core.history) }
         ensures rests { IfOk result (λ a. a.installed ≡ false → self.new.store ≡ self.old.store) }
         ensures refused { S.tells → IsErrOf result Error.OutOfNumbers ⊎ IsErrOf result Error.TooManyRuns → RemovesTables (map (λ t. t.id) job.tables) (S.world self.old.store) (S.world self.new.store) }
         ensures deeds { IfOk result (λ a. a.installed ≡ true → IsFlushDeed job self.old.core self.new.core) }
@@ -254,7 +254,7 @@ impl<S: Store> TreeState<S> {
         // The store is blamed only where a call of it failed.
         ensures causes { HasCause (BlamesOrUnclean result) (S.world self.old.store) (S.world self.new.store) }
         // Behind a whole clean-up no file is left of what went.
-        ensures gone { S.tells → IfOk result (λ a. a.installed ≡ true → a.cleaned ≡ true → LeavesNoFiles (S.world self.new.store) [] self.old.core.history self.new.core.history) }
+        ensures gone { S.tells → IfOk result (λ a. a.installed ≡ true → a.cleaned ≡ true → LeavesNoVersions (S.world self.new.store) self.old.core.history self.new.core.history) }
         // Where the job is stale, no call of the store is made.
         ensures rests { IfOk result (λ a. a.installed ≡ false → self.new.store ≡ self.old.store) }
         // Where the counter or the level was full, no file is left of a current job, unless a call of the store failed.

@@ -1,10 +1,10 @@
 // The calls of a compaction, of a logged tree behind the lock.
 ghost use Rattle.std.specs.Prelude.{◌≡◌, Err, IfOk, IfErr};
-ghost use Rattle.lsm_commit.specs.Causes.{HasCause, Blames};
 ghost use Rattle.lsm_state.specs.Compactions.{BeginsChoice, BeginsCompaction, Finishes, Spends};
 ghost use Rattle.lsm_state.specs.WholeCompactions.{CompactsChoice, Compacts, DropsRange, options_at, only_memory, major_choice};
 ghost use Rattle.lsm_logged.specs.Asking.{Asks};
-ghost use Rattle.lsm_tree.specs.Shared.{OnSomeStore, OnSomeLogged, TouchesTreeAlone};
+ghost use Rattle.lsm_tree.specs.Files.{BeginsFiles, CompactsFiles, FinishesFiles};
+ghost use Rattle.lsm_tree.specs.Shared.{OnSomeLogged, TouchesTreeAlone, OnSomeLoggedFiles};
 ghost use Rattle.lsm_tree.specs.Gates.{IsNoJob, EndsGatedLogged, CompactsGatedLogged};
 
 use crate::gate::{Gate, told_end};
@@ -29,9 +29,7 @@ impl<S: Store> Handle<Logged<S>> {
         strategy: &dyn CompactionStrategy,
         options: Options,
     ) -> Result<Begun, Error>
-        ensures begins { OnSomeLogged S (λ old new. Asks result old new (BeginsCompaction (may_choose strategy.now) (may_refuse strategy.now) options result old.core new.core)) }
-        // The store is blamed only where a call of it failed.
-        ensures causes { OnSomeStore S (λ old new. HasCause (Blames result) (S.world old) (S.world new)) }
+        ensures { OnSomeLoggedFiles S.tells S.world (BeginsFiles result) (λ old new. Asks result old new (BeginsCompaction (may_choose strategy.now) (may_refuse strategy.now) options result old.core new.core)) }
     {
         act!(self, rt, |tree| tree.begin_compaction(strategy, options))
     }
@@ -43,9 +41,7 @@ impl<S: Store> Handle<Logged<S>> {
         strategy: &C,
         options: Options,
     ) -> Result<Begun, Error>
-        ensures begins { OnSomeLogged S (λ old new. Asks result old new (BeginsCompaction (C.may_choose strategy.now) (C.may_refuse strategy.now) options result old.core new.core)) }
-        // The store is blamed only where a call of it failed.
-        ensures causes { OnSomeStore S (λ old new. HasCause (Blames result) (S.world old) (S.world new)) }
+        ensures { OnSomeLoggedFiles S.tells S.world (BeginsFiles result) (λ old new. Asks result old new (BeginsCompaction (C.may_choose strategy.now) (C.may_refuse strategy.now) options result old.core new.core)) }
     {
         act!(self, rt, |tree| tree.begin_with(strategy, options))
     }
@@ -57,9 +53,7 @@ impl<S: Store> Handle<Logged<S>> {
         choice: Choice,
         options: Options,
     ) -> Result<Begun, Error>
-        ensures begins { OnSomeLogged S (λ old new. Asks result old new (BeginsChoice choice options result old.core new.core)) }
-        // The store is blamed only where a call of it failed.
-        ensures causes { OnSomeStore S (λ old new. HasCause (Blames result) (S.world old) (S.world new)) }
+        ensures { OnSomeLoggedFiles S.tells S.world (BeginsFiles result) (λ old new. Asks result old new (BeginsChoice choice options result old.core new.core)) }
     {
         act!(self, rt, |tree| tree.begin_choice(choice, options))
     }
@@ -70,9 +64,7 @@ impl<S: Store> Handle<Logged<S>> {
         rt: &impl Wait,
         merged: MergedCompaction,
     ) -> Result<Finished, Error>
-        ensures finishes { OnSomeLogged S (λ old new. Asks result old new (Finishes merged.job result old.core new.core)) }
-        // The store is blamed only where a call of it failed.
-        ensures causes { OnSomeStore S (λ old new. HasCause (Blames result) (S.world old) (S.world new)) }
+        ensures { OnSomeLoggedFiles S.tells S.world (FinishesFiles result) (λ old new. Asks result old new (Finishes merged.job result old.core new.core)) }
     {
         act!(self, rt, |tree| tree.finish_compaction(merged))
     }
@@ -92,9 +84,7 @@ impl<S: Store> Handle<Logged<S>> {
         strategy: &dyn CompactionStrategy,
         watermark: SeqNo,
     ) -> Result<Begun, Error>
-        ensures compacts { OnSomeLogged S (λ old new. Asks result old new (Compacts (may_choose strategy.now) (may_refuse strategy.now) (options_at watermark old.core) result old.core new.core)) }
-        // The store is blamed only where a call of it failed.
-        ensures causes { OnSomeStore S (λ old new. HasCause (Blames result) (S.world old) (S.world new)) }
+        ensures { OnSomeLoggedFiles S.tells S.world (CompactsFiles result) (λ old new. Asks result old new (Compacts (may_choose strategy.now) (may_refuse strategy.now) (options_at watermark old.core) result old.core new.core)) }
     {
         act!(self, rt, |tree| tree.compact(strategy, watermark))
     }
@@ -106,9 +96,7 @@ impl<S: Store> Handle<Logged<S>> {
         strategy: &C,
         options: Options,
     ) -> Result<Begun, Error>
-        ensures compacts { OnSomeLogged S (λ old new. Asks result old new (Compacts (C.may_choose strategy.now) (C.may_refuse strategy.now) options result old.core new.core)) }
-        // The store is blamed only where a call of it failed.
-        ensures causes { OnSomeStore S (λ old new. HasCause (Blames result) (S.world old) (S.world new)) }
+        ensures { OnSomeLoggedFiles S.tells S.world (CompactsFiles result) (λ old new. Asks result old new (Compacts (C.may_choose strategy.now) (C.may_refuse strategy.now) options result old.core new.core)) }
     {
         act!(self, rt, |tree| tree.compact_with(strategy, options))
     }
@@ -120,9 +108,7 @@ impl<S: Store> Handle<Logged<S>> {
         choice: Choice,
         options: Options,
     ) -> Result<Begun, Error>
-        ensures compacts { OnSomeLogged S (λ old new. Asks result old new (CompactsChoice choice options result old.core new.core)) }
-        // The store is blamed only where a call of it failed.
-        ensures causes { OnSomeStore S (λ old new. HasCause (Blames result) (S.world old) (S.world new)) }
+        ensures { OnSomeLoggedFiles S.tells S.world (CompactsFiles result) (λ old new. Asks result old new (CompactsChoice choice options result old.core new.core)) }
     {
         act!(self, rt, |tree| tree.compact_choice(choice, options))
     }
@@ -134,8 +120,7 @@ impl<S: Store> Handle<Logged<S>> {
         strategy: &dyn CompactionStrategy,
         watermark: SeqNo,
     ) -> Result<Begun, Error>
-        ensures begins { OnSomeLogged S (λ old new. Asks result old new (BeginsCompaction (may_choose strategy.now) (may_refuse strategy.now) (options_at watermark old.core) result old.core new.core)) }
-        ensures causes { OnSomeStore S (λ old new. HasCause (Blames result) (S.world old) (S.world new)) }
+        ensures { OnSomeLoggedFiles S.tells S.world (BeginsFiles result) (λ old new. Asks result old new (BeginsCompaction (may_choose strategy.now) (may_refuse strategy.now) (options_at watermark old.core) result old.core new.core)) }
     {
         let mut tree = self.shared.lock(rt);
         let tree = &mut *tree;
@@ -156,10 +141,8 @@ impl<S: Store> Handle<Logged<S>> {
         passed: Result<MergedCompaction, (Error, CompactionJob)>,
     ) -> Result<Begun, Error>
         requires { IfErr passed (λ e. e.0 ≡ Error.OutOfMemory) }
-        ensures done { IfOk passed (λ m. EndsGatedLogged S m.job result) }
-        ensures back { IfErr passed (λ e. EndsGatedLogged S e.1 result) }
-        ensures causes { IfOk passed (λ _. OnSomeStore S (λ old new. HasCause (Blames result) (S.world old) (S.world new))) }
-        ensures given_up { IfErr passed (λ _. result ≡ Err Error.OutOfMemory) }
+        ensures done { IfOk passed (λ m. EndsGatedLogged S.tells S.world m.job result) }
+        ensures back { IfErr passed (λ e. EndsGatedLogged S.tells S.world e.1 result) }
         ensures no_job { IsNoJob result }
     {
         match passed {
@@ -185,9 +168,7 @@ impl<S: Store> Handle<Logged<S>> {
         watermark: SeqNo,
         gate: &impl Gate,
     ) -> Result<Begun, Error>
-        ensures gated { CompactsGatedLogged S (may_choose strategy.now) (may_refuse strategy.now) watermark result }
-        // The store is blamed only where a call of it failed.
-        ensures causes { OnSomeStore S (λ old new. HasCause (Blames result) (S.world old) (S.world new)) }
+        ensures gated { CompactsGatedLogged S.tells S.world (may_choose strategy.now) (may_refuse strategy.now) watermark result }
         ensures no_job { IsNoJob result }
     {
         match self.begin_at(rt, strategy, watermark) {
@@ -206,18 +187,14 @@ impl<S: Store> Handle<Logged<S>> {
         target: u64,
         watermark: SeqNo,
     ) -> Result<Begun, Error>
-        ensures compacts { OnSomeLogged S (λ old new. Asks result old new (Compacts (major_choice target) only_memory (options_at watermark old.core) result old.core new.core)) }
-        // The store is blamed only where a call of it failed.
-        ensures causes { OnSomeStore S (λ old new. HasCause (Blames result) (S.world old) (S.world new)) }
+        ensures { OnSomeLoggedFiles S.tells S.world (CompactsFiles result) (λ old new. Asks result old new (Compacts (major_choice target) only_memory (options_at watermark old.core) result old.core new.core)) }
     {
         act!(self, rt, |tree| tree.major_compact(target, watermark))
     }
 
     /// Drops the tables that lie within bounds, as `Logged::drop_range`.
     pub fn drop_range(&self, rt: &impl Wait, bounds: OwnedBounds) -> Result<Begun, Error>
-        ensures drops { OnSomeLogged S (λ old new. Asks result old new (DropsRange bounds result old.core new.core)) }
-        // The store is blamed only where a call of it failed.
-        ensures causes { OnSomeStore S (λ old new. HasCause (Blames result) (S.world old) (S.world new)) }
+        ensures { OnSomeLoggedFiles S.tells S.world (CompactsFiles result) (λ old new. Asks result old new (DropsRange bounds result old.core new.core)) }
     {
         act!(self, rt, |tree| tree.drop_range(bounds))
     }

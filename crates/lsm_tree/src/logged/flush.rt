@@ -1,10 +1,9 @@
 // The calls of a flush, of a logged tree behind the lock.
 ghost use Rattle.std.specs.Prelude.{◌≡◌};
-ghost use Rattle.lsm_commit.specs.Causes.{HasCause};
-ghost use Rattle.lsm_state.specs.Causes.{BlamesBeside, BlamesOrUnclean, BlamesOrUncleanFlush, BlamesOrUncleanBehind};
 ghost use Rattle.lsm_state.specs.Flushes.{spent};
 ghost use Rattle.lsm_logged.specs.Flushing.{FlushesLogged, FlushesBoth, BeginsLogged, WritesJobLogged, RegistersLogged};
-ghost use Rattle.lsm_tree.specs.Shared.{OnSomeStore, OnSomeLogged, TouchesTreeAlone, LeavesLog};
+ghost use Rattle.lsm_tree.specs.Files.{FlushesActiveFiles, FlushesFiles, RegistersFiles, WritesFiles};
+ghost use Rattle.lsm_tree.specs.Shared.{OnSomeLogged, TouchesTreeAlone, OnSomeLoggedFiles, OnSomeLoggedRemoving};
 
 use crate::handle::Handle;
 use crate::lock::act;
@@ -31,18 +30,14 @@ impl<S: Store> Handle<Logged<S>> {
         rt: &impl Wait,
         job: MergedFlush,
     ) -> Result<WrittenFlush, (Error, MergedFlush)>
-        ensures writes { OnSomeLogged S (λ old new. WritesJobLogged job result old new) }
-        // The store is blamed only where a call of it failed.
-        ensures causes { OnSomeStore S (λ old new. HasCause (BlamesBeside result) (S.world old) (S.world new)) }
+        ensures { OnSomeLoggedFiles S.tells S.world (WritesFiles result) (λ old new. WritesJobLogged job result old new) }
     {
         act!(self, rt, |tree| tree.flush_to_tables(job))
     }
 
     /// Installs the tables of a job, or finds it stale, and removes the records that it passed, as `Logged::register_tables`.
     pub fn register_tables(&self, rt: &impl Wait, job: WrittenFlush) -> Result<Registered, Error>
-        ensures registers { OnSomeLogged S (λ old new. RegistersLogged job result old new × (S.tells → LeavesLog S.world old new)) }
-        // The store is blamed only where a call of it failed.
-        ensures causes { OnSomeStore S (λ old new. HasCause (BlamesOrUnclean result) (S.world old) (S.world new)) }
+        ensures { OnSomeLoggedRemoving S.tells S.world (RegistersFiles job result) (λ old new. RegistersLogged job result old new) }
     {
         act!(self, rt, |tree| tree.register_tables(job))
     }
@@ -61,9 +56,7 @@ impl<S: Store> Handle<Logged<S>> {
         rt: &impl Wait,
         watermark: SeqNo,
     ) -> Result<Option<(u64, Registered)>, Error>
-        ensures flushes { OnSomeLogged S (λ old new. FlushesLogged watermark result old new × (S.tells → LeavesLog S.world old new)) }
-        // The store is blamed only where a call of it failed.
-        ensures causes { OnSomeStore S (λ old new. HasCause (BlamesOrUncleanFlush result) (S.world old) (S.world new)) }
+        ensures { OnSomeLoggedRemoving S.tells S.world (FlushesFiles result) (λ old new. FlushesLogged watermark result old new) }
     {
         act!(self, rt, |tree| tree.flush(watermark))
     }
@@ -75,9 +68,7 @@ impl<S: Store> Handle<Logged<S>> {
         rt: &impl Wait,
         watermark: SeqNo,
     ) -> Result<(Option<MemtableId>, Option<(u64, Registered)>), (Error, Option<MemtableId>)>
-        ensures flushes { OnSomeLogged S (λ old new. FlushesBoth watermark result old new × (S.tells → LeavesLog S.world old new)) }
-        // The store is blamed only where a call of it failed.
-        ensures causes { OnSomeStore S (λ old new. HasCause (BlamesOrUncleanBehind result) (S.world old) (S.world new)) }
+        ensures { OnSomeLoggedRemoving S.tells S.world (FlushesActiveFiles result) (λ old new. FlushesBoth watermark result old new) }
     {
         act!(self, rt, |tree| tree.flush_active_memtable(watermark))
     }

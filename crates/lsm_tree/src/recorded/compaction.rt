@@ -1,12 +1,12 @@
 // The calls of a compaction, of a tree with its journal behind the lock.
 ghost use Rattle.std.specs.Prelude.{◌≡◌, ◌⊎◌, ◌↔◌, ℕ, true, Err, IfOk, IfErr, IsTrue};
 ghost use Rattle.lsm_compaction.specs.OpenMerges.{hides};
-ghost use Rattle.lsm_commit.specs.Causes.{HasCause, Blames};
 ghost use Rattle.lsm_state.specs.Compactions.{Spends};
 ghost use Rattle.lsm_state.specs.WholeCompactions.{options_at, only_memory, major_choice};
 ghost use Rattle.lsm_recorded.specs.Flushing.{SpendsUnnoted};
 ghost use Rattle.lsm_recorded.specs.Compacting.{BeginsRecorded, FinishesRecorded, CompactsRecorded, DropsRecorded};
-ghost use Rattle.lsm_tree.specs.Shared.{OnSomeTreeAlone, OnSomeStore, AtSomeTree, OnSomeRecorded};
+ghost use Rattle.lsm_tree.specs.Files.{BeginsFiles, CompactsFiles, FinishesFiles};
+ghost use Rattle.lsm_tree.specs.Shared.{OnSomeTreeAlone, AtSomeTree, OnSomeRecordedFiles};
 ghost use Rattle.lsm_tree.specs.Gates.{IsNoJob, EndsGatedRecorded, CompactsGatedRecorded};
 
 use crate::gate::{Gate, told_end};
@@ -32,9 +32,7 @@ impl<S: Store> Handle<Recorded<S>> {
         strategy: &dyn CompactionStrategy,
         options: Options,
     ) -> Result<Begun, Error>
-        ensures begins { OnSomeRecorded S (λ old new. BeginsRecorded (may_choose strategy.now) (may_refuse strategy.now) options result old new pass.old pass.new) }
-        // The store is blamed only where a call of it failed.
-        ensures causes { OnSomeStore S (λ old new. HasCause (Blames result) (S.world old) (S.world new)) }
+        ensures { OnSomeRecordedFiles S.tells S.world (BeginsFiles result) (λ old new. BeginsRecorded (may_choose strategy.now) (may_refuse strategy.now) options result old new pass.old pass.new) }
     {
         act!(
             self,
@@ -50,9 +48,7 @@ impl<S: Store> Handle<Recorded<S>> {
         pass: &mut Pass,
         merged: MergedCompaction,
     ) -> Result<Finished, Error>
-        ensures finishes { OnSomeRecorded S (λ old new. SpendsUnnoted (Spends merged.job) result old new pass.old pass.new ⊎ FinishesRecorded merged.job result old new pass.old pass.new) }
-        // The store is blamed only where a call of it failed.
-        ensures causes { OnSomeStore S (λ old new. HasCause (Blames result) (S.world old) (S.world new)) }
+        ensures { OnSomeRecordedFiles S.tells S.world (FinishesFiles result) (λ old new. SpendsUnnoted (Spends merged.job) result old new pass.old pass.new ⊎ FinishesRecorded merged.job result old new pass.old pass.new) }
     {
         act!(self, rt, |tree| tree.finish_compaction(pass, merged))
     }
@@ -73,9 +69,7 @@ impl<S: Store> Handle<Recorded<S>> {
         strategy: &dyn CompactionStrategy,
         options: Options,
     ) -> Result<Begun, Error>
-        ensures compacts { OnSomeRecorded S (λ old new. CompactsRecorded (may_choose strategy.now) (may_refuse strategy.now) options result old new pass.old pass.new) }
-        // The store is blamed only where a call of it failed.
-        ensures causes { OnSomeStore S (λ old new. HasCause (Blames result) (S.world old) (S.world new)) }
+        ensures { OnSomeRecordedFiles S.tells S.world (CompactsFiles result) (λ old new. CompactsRecorded (may_choose strategy.now) (may_refuse strategy.now) options result old new pass.old pass.new) }
     {
         act!(self, rt, |tree| tree.do_compaction(pass, strategy, options))
     }
@@ -88,9 +82,7 @@ impl<S: Store> Handle<Recorded<S>> {
         strategy: &dyn CompactionStrategy,
         watermark: SeqNo,
     ) -> Result<Begun, Error>
-        ensures compacts { OnSomeRecorded S (λ old new. CompactsRecorded (may_choose strategy.now) (may_refuse strategy.now) (options_at watermark old.tree.core) result old new pass.old pass.new) }
-        // The store is blamed only where a call of it failed.
-        ensures causes { OnSomeStore S (λ old new. HasCause (Blames result) (S.world old) (S.world new)) }
+        ensures { OnSomeRecordedFiles S.tells S.world (CompactsFiles result) (λ old new. CompactsRecorded (may_choose strategy.now) (may_refuse strategy.now) (options_at watermark old.tree.core) result old new pass.old pass.new) }
     {
         act!(self, rt, |tree| tree.compact(pass, strategy, watermark))
     }
@@ -103,8 +95,7 @@ impl<S: Store> Handle<Recorded<S>> {
         strategy: &dyn CompactionStrategy,
         watermark: SeqNo,
     ) -> Result<Begun, Error>
-        ensures begins { OnSomeRecorded S (λ old new. BeginsRecorded (may_choose strategy.now) (may_refuse strategy.now) (options_at watermark old.tree.core) result old new pass.old pass.new) }
-        ensures causes { OnSomeStore S (λ old new. HasCause (Blames result) (S.world old) (S.world new)) }
+        ensures { OnSomeRecordedFiles S.tells S.world (BeginsFiles result) (λ old new. BeginsRecorded (may_choose strategy.now) (may_refuse strategy.now) (options_at watermark old.tree.core) result old new pass.old pass.new) }
     {
         let mut tree = self.shared.lock(rt);
         let tree = &mut *tree;
@@ -126,10 +117,8 @@ impl<S: Store> Handle<Recorded<S>> {
         passed: Result<MergedCompaction, (Error, CompactionJob)>,
     ) -> Result<Begun, Error>
         requires { IfErr passed (λ e. e.0 ≡ Error.OutOfMemory) }
-        ensures done { IfOk passed (λ m. EndsGatedRecorded S m.job result pass.old pass.new) }
-        ensures back { IfErr passed (λ e. EndsGatedRecorded S e.1 result pass.old pass.new) }
-        ensures causes { IfOk passed (λ _. OnSomeStore S (λ old new. HasCause (Blames result) (S.world old) (S.world new))) }
-        ensures given_up { IfErr passed (λ _. result ≡ Err Error.OutOfMemory) }
+        ensures done { IfOk passed (λ m. EndsGatedRecorded S.tells S.world m.job result pass.old pass.new) }
+        ensures back { IfErr passed (λ e. EndsGatedRecorded S.tells S.world e.1 result pass.old pass.new) }
         ensures no_job { IsNoJob result }
     {
         match passed {
@@ -157,9 +146,7 @@ impl<S: Store> Handle<Recorded<S>> {
         watermark: SeqNo,
         gate: &impl Gate,
     ) -> Result<Begun, Error>
-        ensures gated { CompactsGatedRecorded S (may_choose strategy.now) (may_refuse strategy.now) watermark result pass.old pass.new }
-        // The store is blamed only where a call of it failed.
-        ensures causes { OnSomeStore S (λ old new. HasCause (Blames result) (S.world old) (S.world new)) }
+        ensures gated { CompactsGatedRecorded S.tells S.world (may_choose strategy.now) (may_refuse strategy.now) watermark result pass.old pass.new }
         ensures no_job { IsNoJob result }
     {
         match self.begin_at(rt, pass, strategy, watermark) {
@@ -179,9 +166,7 @@ impl<S: Store> Handle<Recorded<S>> {
         target: u64,
         watermark: SeqNo,
     ) -> Result<Begun, Error>
-        ensures compacts { OnSomeRecorded S (λ old new. CompactsRecorded (major_choice target) only_memory (options_at watermark old.tree.core) result old new pass.old pass.new) }
-        // The store is blamed only where a call of it failed.
-        ensures causes { OnSomeStore S (λ old new. HasCause (Blames result) (S.world old) (S.world new)) }
+        ensures { OnSomeRecordedFiles S.tells S.world (CompactsFiles result) (λ old new. CompactsRecorded (major_choice target) only_memory (options_at watermark old.tree.core) result old new pass.old pass.new) }
     {
         act!(self, rt, |tree| tree.major_compact(pass, target, watermark))
     }
@@ -193,9 +178,7 @@ impl<S: Store> Handle<Recorded<S>> {
         pass: &mut Pass,
         bounds: OwnedBounds,
     ) -> Result<Begun, Error>
-        ensures drops { OnSomeRecorded S (λ old new. DropsRecorded bounds result old new pass.old pass.new) }
-        // The store is blamed only where a call of it failed.
-        ensures causes { OnSomeStore S (λ old new. HasCause (Blames result) (S.world old) (S.world new)) }
+        ensures { OnSomeRecordedFiles S.tells S.world (CompactsFiles result) (λ old new. DropsRecorded bounds result old new pass.old pass.new) }
     {
         act!(self, rt, |tree| tree.drop_range(pass, bounds))
     }

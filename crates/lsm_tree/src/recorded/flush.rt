@@ -1,11 +1,10 @@
 // The calls of a flush, of a tree with its journal behind the lock.
 ghost use Rattle.std.specs.Prelude.{◌≡◌, ◌⊎◌};
-ghost use Rattle.lsm_commit.specs.Causes.{HasCause};
-ghost use Rattle.lsm_state.specs.Causes.{BlamesBeside, BlamesOrUnclean, BlamesOrUncleanFlush, BlamesOrUncleanBehind};
 ghost use Rattle.lsm_state.specs.Flushes.{Begins, WritesTables, spent};
 ghost use Rattle.lsm_state.specs.WholeFlushes.{FlushesActive};
 ghost use Rattle.lsm_recorded.specs.Flushing.{SpendsUnnoted, IsSpentFlush, RegistersNoted, RefusesUnnoted, FlushesNoted, NotesActive};
-ghost use Rattle.lsm_tree.specs.Shared.{OnSomeTree, OnSomeTreeAlone, OnSomeStore, OnSomeRecorded};
+ghost use Rattle.lsm_tree.specs.Files.{FlushesActiveFiles, FlushesFiles, RegistersFiles, WritesFiles};
+ghost use Rattle.lsm_tree.specs.Shared.{OnSomeTreeAlone, OnSomeTreeFiles, OnSomeRecordedFiles};
 
 use crate::handle::Handle;
 use crate::lock::act;
@@ -34,9 +33,7 @@ impl<S: Store> Handle<Recorded<S>> {
         pass: &mut Pass,
         job: MergedFlush,
     ) -> Result<WrittenFlush, (Error, MergedFlush)>
-        ensures writes { OnSomeTree (λ old new. WritesTables job result old new) }
-        // The store is blamed only where a call of it failed.
-        ensures causes { OnSomeStore S (λ old new. HasCause (BlamesBeside result) (S.world old) (S.world new)) }
+        ensures writes { OnSomeTreeFiles S.tells S.world (WritesFiles result) (λ old new. WritesTables job result old new) }
         ensures pass { pass.new ≡ pass.old }
     {
         act!(self, rt, |tree| tree.flush_to_tables(pass, job))
@@ -49,9 +46,7 @@ impl<S: Store> Handle<Recorded<S>> {
         pass: &mut Pass,
         job: WrittenFlush,
     ) -> Result<Registered, Error>
-        ensures registers { OnSomeRecorded S (λ old new. SpendsUnnoted (IsSpentFlush job) result old new pass.old pass.new ⊎ RegistersNoted job result old new pass.old pass.new) }
-        // The store is blamed only where a call of it failed.
-        ensures causes { OnSomeStore S (λ old new. HasCause (BlamesOrUnclean result) (S.world old) (S.world new)) }
+        ensures { OnSomeRecordedFiles S.tells S.world (RegistersFiles job result) (λ old new. SpendsUnnoted (IsSpentFlush job) result old new pass.old pass.new ⊎ RegistersNoted job result old new pass.old pass.new) }
     {
         act!(self, rt, |tree| tree.register_tables(pass, job))
     }
@@ -71,9 +66,7 @@ impl<S: Store> Handle<Recorded<S>> {
         pass: &mut Pass,
         watermark: SeqNo,
     ) -> Result<Option<(u64, Registered)>, Error>
-        ensures flushes { OnSomeRecorded S (λ old new. RefusesUnnoted result old new pass.old pass.new ⊎ FlushesNoted watermark result old.tree.core new.tree.core old.journal new.journal pass.old pass.new) }
-        // The store is blamed only where a call of it failed.
-        ensures causes { OnSomeStore S (λ old new. HasCause (BlamesOrUncleanFlush result) (S.world old) (S.world new)) }
+        ensures { OnSomeRecordedFiles S.tells S.world (FlushesFiles result) (λ old new. RefusesUnnoted result old new pass.old pass.new ⊎ FlushesNoted watermark result old.tree.core new.tree.core old.journal new.journal pass.old pass.new) }
     {
         act!(self, rt, |tree| tree.flush(pass, watermark))
     }
@@ -86,9 +79,7 @@ impl<S: Store> Handle<Recorded<S>> {
         pass: &mut Pass,
         watermark: SeqNo,
     ) -> Result<(Option<MemtableId>, Option<(u64, Registered)>), (Error, Option<MemtableId>)>
-        ensures flushes { OnSomeRecorded S (λ old new. FlushesActive watermark result old.tree.core new.tree.core × NotesActive watermark result old.tree.core new.tree.core old.journal new.journal pass.old pass.new) }
-        // The store is blamed only where a call of it failed.
-        ensures causes { OnSomeStore S (λ old new. HasCause (BlamesOrUncleanBehind result) (S.world old) (S.world new)) }
+        ensures { OnSomeRecordedFiles S.tells S.world (FlushesActiveFiles result) (λ old new. FlushesActive watermark result old.tree.core new.tree.core × NotesActive watermark result old.tree.core new.tree.core old.journal new.journal pass.old pass.new) }
     {
         act!(self, rt, |tree| tree.flush_active_memtable(pass, watermark))
     }

@@ -1,10 +1,10 @@
 // The calls of a compaction, of a tree behind the lock.
 ghost use Rattle.std.specs.Prelude.{◌≡◌, ◌↔◌, ℕ, true, Err, IfOk, IfErr, IsTrue};
 ghost use Rattle.lsm_compaction.specs.OpenMerges.{hides};
-ghost use Rattle.lsm_commit.specs.Causes.{HasCause, Blames};
 ghost use Rattle.lsm_state.specs.Compactions.{BeginsChoice, BeginsCompaction, Finishes, Spends};
 ghost use Rattle.lsm_state.specs.WholeCompactions.{Compacts, DropsRange, options_at, only_memory, major_choice};
-ghost use Rattle.lsm_tree.specs.Shared.{OnSomeTree, OnSomeTreeAlone, OnSomeStore, AtSomeTree};
+ghost use Rattle.lsm_tree.specs.Files.{BeginsFiles, CompactsFiles, FinishesFiles};
+ghost use Rattle.lsm_tree.specs.Shared.{OnSomeTreeAlone, AtSomeTree, OnSomeTreeFiles};
 ghost use Rattle.lsm_tree.specs.Gates.{IsNoJob, EndsGated, CompactsGated};
 
 use crate::gate::{Gate, told_end};
@@ -39,9 +39,7 @@ impl<S: Store> Handle<TreeState<S>> {
         strategy: &dyn CompactionStrategy,
         options: Options,
     ) -> Result<Begun, Error>
-        ensures begins { OnSomeTree (λ old new. BeginsCompaction (may_choose strategy.now) (may_refuse strategy.now) options result old new) }
-        // The store is blamed only where a call of it failed.
-        ensures causes { OnSomeStore S (λ old new. HasCause (Blames result) (S.world old) (S.world new)) }
+        ensures { OnSomeTreeFiles S.tells S.world (BeginsFiles result) (λ old new. BeginsCompaction (may_choose strategy.now) (may_refuse strategy.now) options result old new) }
     {
         act!(self, rt, |tree| tree.begin_compaction(strategy, options))
     }
@@ -53,9 +51,7 @@ impl<S: Store> Handle<TreeState<S>> {
         choice: Choice,
         options: Options,
     ) -> Result<Begun, Error>
-        ensures begins { OnSomeTree (λ old new. BeginsChoice choice options result old new) }
-        // The store is blamed only where a call of it failed.
-        ensures causes { OnSomeStore S (λ old new. HasCause (Blames result) (S.world old) (S.world new)) }
+        ensures { OnSomeTreeFiles S.tells S.world (BeginsFiles result) (λ old new. BeginsChoice choice options result old new) }
     {
         act!(self, rt, |tree| tree.begin_choice(choice, options))
     }
@@ -66,9 +62,7 @@ impl<S: Store> Handle<TreeState<S>> {
         rt: &impl Wait,
         merged: MergedCompaction,
     ) -> Result<Finished, Error>
-        ensures finishes { OnSomeTree (λ old new. Finishes merged.job result old new) }
-        // The store is blamed only where a call of it failed.
-        ensures causes { OnSomeStore S (λ old new. HasCause (Blames result) (S.world old) (S.world new)) }
+        ensures { OnSomeTreeFiles S.tells S.world (FinishesFiles result) (λ old new. Finishes merged.job result old new) }
     {
         act!(self, rt, |tree| tree.finish_compaction(merged))
     }
@@ -87,9 +81,7 @@ impl<S: Store> Handle<TreeState<S>> {
         strategy: &dyn CompactionStrategy,
         options: Options,
     ) -> Result<Begun, Error>
-        ensures compacts { OnSomeTree (λ old new. Compacts (may_choose strategy.now) (may_refuse strategy.now) options result old new) }
-        // The store is blamed only where a call of it failed.
-        ensures causes { OnSomeStore S (λ old new. HasCause (Blames result) (S.world old) (S.world new)) }
+        ensures { OnSomeTreeFiles S.tells S.world (CompactsFiles result) (λ old new. Compacts (may_choose strategy.now) (may_refuse strategy.now) options result old new) }
     {
         act!(self, rt, |tree| do_compaction(tree, strategy, options))
     }
@@ -101,9 +93,7 @@ impl<S: Store> Handle<TreeState<S>> {
         strategy: &dyn CompactionStrategy,
         watermark: SeqNo,
     ) -> Result<Begun, Error>
-        ensures compacts { OnSomeTree (λ old new. Compacts (may_choose strategy.now) (may_refuse strategy.now) (options_at watermark old) result old new) }
-        // The store is blamed only where a call of it failed.
-        ensures causes { OnSomeStore S (λ old new. HasCause (Blames result) (S.world old) (S.world new)) }
+        ensures { OnSomeTreeFiles S.tells S.world (CompactsFiles result) (λ old new. Compacts (may_choose strategy.now) (may_refuse strategy.now) (options_at watermark old) result old new) }
     {
         act!(self, rt, |tree| tree.compact(strategy, watermark))
     }
@@ -115,8 +105,7 @@ impl<S: Store> Handle<TreeState<S>> {
         strategy: &dyn CompactionStrategy,
         watermark: SeqNo,
     ) -> Result<Begun, Error>
-        ensures begins { OnSomeTree (λ old new. BeginsCompaction (may_choose strategy.now) (may_refuse strategy.now) (options_at watermark old) result old new) }
-        ensures causes { OnSomeStore S (λ old new. HasCause (Blames result) (S.world old) (S.world new)) }
+        ensures { OnSomeTreeFiles S.tells S.world (BeginsFiles result) (λ old new. BeginsCompaction (may_choose strategy.now) (may_refuse strategy.now) (options_at watermark old) result old new) }
     {
         let mut tree = self.shared.lock(rt);
         let tree = &mut *tree;
@@ -137,10 +126,8 @@ impl<S: Store> Handle<TreeState<S>> {
         passed: Result<MergedCompaction, (Error, CompactionJob)>,
     ) -> Result<Begun, Error>
         requires { IfErr passed (λ e. e.0 ≡ Error.OutOfMemory) }
-        ensures done { IfOk passed (λ m. EndsGated S m.job result) }
-        ensures back { IfErr passed (λ e. EndsGated S e.1 result) }
-        ensures causes { IfOk passed (λ _. OnSomeStore S (λ old new. HasCause (Blames result) (S.world old) (S.world new))) }
-        ensures given_up { IfErr passed (λ _. result ≡ Err Error.OutOfMemory) }
+        ensures done { IfOk passed (λ m. EndsGated S.tells S.world m.job result) }
+        ensures back { IfErr passed (λ e. EndsGated S.tells S.world e.1 result) }
         ensures no_job { IsNoJob result }
     {
         match passed {
@@ -174,9 +161,7 @@ impl<S: Store> Handle<TreeState<S>> {
         watermark: SeqNo,
         gate: &impl Gate,
     ) -> Result<Begun, Error>
-        ensures gated { CompactsGated S (may_choose strategy.now) (may_refuse strategy.now) watermark result }
-        // The store is blamed only where a call of it failed.
-        ensures causes { OnSomeStore S (λ old new. HasCause (Blames result) (S.world old) (S.world new)) }
+        ensures gated { CompactsGated S.tells S.world (may_choose strategy.now) (may_refuse strategy.now) watermark result }
         ensures no_job { IsNoJob result }
     {
         match self.begin_at(rt, strategy, watermark) {
@@ -195,18 +180,14 @@ impl<S: Store> Handle<TreeState<S>> {
         target: u64,
         watermark: SeqNo,
     ) -> Result<Begun, Error>
-        ensures compacts { OnSomeTree (λ old new. Compacts (major_choice target) only_memory (options_at watermark old) result old new) }
-        // The store is blamed only where a call of it failed.
-        ensures causes { OnSomeStore S (λ old new. HasCause (Blames result) (S.world old) (S.world new)) }
+        ensures { OnSomeTreeFiles S.tells S.world (CompactsFiles result) (λ old new. Compacts (major_choice target) only_memory (options_at watermark old) result old new) }
     {
         act!(self, rt, |tree| tree.major_compact(target, watermark))
     }
 
     /// Drops the tables that lie within bounds, as `TreeState::drop_range`.
     pub fn drop_range(&self, rt: &impl Wait, bounds: OwnedBounds) -> Result<Begun, Error>
-        ensures drops { OnSomeTree (λ old new. DropsRange bounds result old new) }
-        // The store is blamed only where a call of it failed.
-        ensures causes { OnSomeStore S (λ old new. HasCause (Blames result) (S.world old) (S.world new)) }
+        ensures { OnSomeTreeFiles S.tells S.world (CompactsFiles result) (λ old new. DropsRange bounds result old new) }
     {
         act!(self, rt, |tree| tree.drop_range(bounds))
     }

@@ -1,10 +1,9 @@
 // The calls of a flush, of a tree behind the lock.
 ghost use Rattle.std.specs.Prelude.{◌≡◌, is_some};
-ghost use Rattle.lsm_commit.specs.Causes.{HasCause};
-ghost use Rattle.lsm_state.specs.Causes.{BlamesBeside, BlamesOrUnclean, BlamesOrUncleanFlush, BlamesOrUncleanBehind};
 ghost use Rattle.lsm_state.specs.Flushes.{Begins, WritesTables, Registers, spent};
 ghost use Rattle.lsm_state.specs.WholeFlushes.{Flushes, FlushesActive};
-ghost use Rattle.lsm_tree.specs.Shared.{OnSomeTree, OnSomeTreeAlone, OnSomeStore, AtSomeTree};
+ghost use Rattle.lsm_tree.specs.Files.{FlushesActiveFiles, FlushesFiles, RegistersFiles, WritesFiles};
+ghost use Rattle.lsm_tree.specs.Shared.{OnSomeTreeAlone, AtSomeTree, OnSomeTreeFiles};
 
 use crate::handle::Handle;
 use crate::lock::{act, read};
@@ -31,18 +30,14 @@ impl<S: Store> Handle<TreeState<S>> {
         rt: &impl Wait,
         job: MergedFlush,
     ) -> Result<WrittenFlush, (Error, MergedFlush)>
-        ensures writes { OnSomeTree (λ old new. WritesTables job result old new) }
-        // The store is blamed only where a call of it failed.
-        ensures causes { OnSomeStore S (λ old new. HasCause (BlamesBeside result) (S.world old) (S.world new)) }
+        ensures { OnSomeTreeFiles S.tells S.world (WritesFiles result) (λ old new. WritesTables job result old new) }
     {
         act!(self, rt, |tree| tree.flush_to_tables(job))
     }
 
     /// Installs the tables of a job, or finds it stale, as `TreeState::register_tables`.
     pub fn register_tables(&self, rt: &impl Wait, job: WrittenFlush) -> Result<Registered, Error>
-        ensures registers { OnSomeTree (λ old new. Registers job result old new) }
-        // The store is blamed only where a call of it failed.
-        ensures causes { OnSomeStore S (λ old new. HasCause (BlamesOrUnclean result) (S.world old) (S.world new)) }
+        ensures { OnSomeTreeFiles S.tells S.world (RegistersFiles job result) (λ old new. Registers job result old new) }
     {
         act!(self, rt, |tree| tree.register_tables(job))
     }
@@ -60,9 +55,7 @@ impl<S: Store> Handle<TreeState<S>> {
         rt: &impl Wait,
         watermark: SeqNo,
     ) -> Result<Option<(u64, Registered)>, Error>
-        ensures flushes { OnSomeTree (λ old new. Flushes watermark result old new) }
-        // The store is blamed only where a call of it failed.
-        ensures causes { OnSomeStore S (λ old new. HasCause (BlamesOrUncleanFlush result) (S.world old) (S.world new)) }
+        ensures { OnSomeTreeFiles S.tells S.world (FlushesFiles result) (λ old new. Flushes watermark result old new) }
     {
         act!(self, rt, |tree| tree.flush(watermark))
     }
@@ -74,9 +67,7 @@ impl<S: Store> Handle<TreeState<S>> {
         rt: &impl Wait,
         watermark: SeqNo,
     ) -> Result<(Option<MemtableId>, Option<(u64, Registered)>), (Error, Option<MemtableId>)>
-        ensures flushes { OnSomeTree (λ old new. FlushesActive watermark result old new) }
-        // The store is blamed only where a call of it failed.
-        ensures causes { OnSomeStore S (λ old new. HasCause (BlamesOrUncleanBehind result) (S.world old) (S.world new)) }
+        ensures { OnSomeTreeFiles S.tells S.world (FlushesActiveFiles result) (λ old new. FlushesActive watermark result old new) }
     {
         act!(self, rt, |tree| tree.flush_active_memtable(watermark))
     }

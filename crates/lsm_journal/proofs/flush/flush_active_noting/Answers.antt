@@ -4,7 +4,7 @@ use Rattle.lsm_commit.specs.Causes.{HasCause}
 use Rattle.lsm_state.specs.Cleaning.{RemovesDrawn, none_drawn}
 use Rattle.lsm_state.specs.Commits.{Upholds}
 use Rattle.lsm_state.specs.Causes.{BlamesOrUncleanFlush}
-use Rattle.lsm_journal.proofs.Rotated.{rotated_upholds, active_noted, behind_cause, behind_gone, behind_refused}
+use Rattle.lsm_journal.proofs.Rotated.{rotated_upholds, active_noted, behind_cause, behind_gone, behind_refused, behind_rests}
 use Rattle.lsm_journal.proofs.flush.flush_active_noting.Goals as goal
 
 pub returns-in-Err-clause-refused : goal.returns-in-Err-clause-refused
@@ -49,3 +49,8 @@ returns-clause-refused g c tells =
     let new = flushed.new.tree in
     rw c.behind.ensures (behind_refused c.in-Ok.sealed flushed.result.0 (w c.args.tree.now.store) (w new.store) c.args.tree.now.core mid.core new.core c.in-Ok.ensures.ok
     (subst (λ s. mid.core.next_table < 2 ^ 63 → IfErr flushed.result.0 (λ e. (e ≡ CommitUnknown → ⊥) → RemovesDrawn mid.core.next_table new.core.next_table (w s) (w new.store))) c.rotate_memtable.ensures.store (flushed.ensures.refused tells)))
+
+pub returns-clause-rests : goal.returns-clause-rests
+returns-clause-rests g c =
+    let flushed = c.flush_noting-entries in
+    rw c.behind.ensures (behind_rests c.in-Ok.sealed flushed.result.0 c.args.tree.now.store c.rotate_memtable.new.self.store flushed.new.tree.store c.rotate_memtable.ensures.store flushed.ensures.rests)

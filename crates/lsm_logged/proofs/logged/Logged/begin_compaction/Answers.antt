@@ -11,7 +11,7 @@ invariant_of-self g c =
 
 pub returns-clause-gone : goal.returns-clause-gone
 returns-clause-gone g c tells =
-    leaves_seen ((goal.CompactionStrategy-dyn g c.args.strategy.now).may_choose c.args.strategy.now.1) c.begin_compaction.result (g.S.Store.world c.begin_compaction.new.self.store) _ _ c.begin_compaction.new.self.core c.self.view_is (c.begin_compaction.ensures.gone tells)
+    leaves_seen c.begin_compaction.result (g.S.Store.world c.begin_compaction.new.self.store) _ _ c.begin_compaction.new.self.core.history c.self.view_is (c.begin_compaction.ensures.gone tells)
 
 pub returns-then-self-clause-acts : goal.returns-then-self-clause-acts
 returns-then-self-clause-acts g c tells =

@@ -11,7 +11,7 @@ invariant_of-self g c =
 
 pub returns-clause-gone : goal.returns-clause-gone
 returns-clause-gone g c tells =
-    leaves_seen (g.C.CompactionStrategy.may_choose c.args.strategy.now) c.begin_with.result (g.S.Store.world c.begin_with.new.self.store) _ _ c.begin_with.new.self.core c.self.view_is (c.begin_with.ensures.gone tells)
+    leaves_seen c.begin_with.result (g.S.Store.world c.begin_with.new.self.store) _ _ c.begin_with.new.self.core.history c.self.view_is (c.begin_with.ensures.gone tells)
 
 pub returns-then-self-clause-acts : goal.returns-then-self-clause-acts
 returns-then-self-clause-acts g c tells =

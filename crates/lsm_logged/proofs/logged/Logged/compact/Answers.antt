@@ -14,7 +14,7 @@ invariant_of-self g c =
 
 pub returns-clause-gone : goal.returns-clause-gone
 returns-clause-gone g c tells =
-    leaves_seen ((goal.CompactionStrategy-dyn g c.args.strategy.now).may_choose c.args.strategy.now.1) c.compact.result (g.S.Store.world c.compact.new.self.store) _ _ c.compact.new.self.core c.self.view_is (c.compact.ensures.gone tells)
+    leaves_seen c.compact.result (g.S.Store.world c.compact.new.self.store) _ _ c.compact.new.self.core.history c.self.view_is (c.compact.ensures.gone tells)
 
 pub returns-then-self-clause-acts : goal.returns-then-self-clause-acts
 returns-then-self-clause-acts g c tells =

@@ -13,7 +13,7 @@ invariant_of-self g c =
 
 pub returns-clause-gone : goal.returns-clause-gone
 returns-clause-gone g c tells =
-    leaves_seen (g.C.CompactionStrategy.may_choose c.args.strategy.now) c.compact_with.result (g.S.Store.world c.compact_with.new.self.store) _ _ c.compact_with.new.self.core c.self.view_is (c.compact_with.ensures.gone tells)
+    leaves_seen c.compact_with.result (g.S.Store.world c.compact_with.new.self.store) _ _ c.compact_with.new.self.core.history c.self.view_is (c.compact_with.ensures.gone tells)
 
 pub returns-then-self-clause-acts : goal.returns-then-self-clause-acts
 returns-then-self-clause-acts g c tells =

@@ -15,7 +15,7 @@ invariant_of-self g c =
 
 pub returns-clause-gone : goal.returns-clause-gone
 returns-clause-gone g c tells =
-    leaves_seen (drop_choice c.args.bounds) c.drop_range.result (g.S.Store.world c.drop_range.new.self.store) _ _ c.drop_range.new.self.core c.self.view_is (c.drop_range.ensures.gone tells)
+    leaves_seen c.drop_range.result (g.S.Store.world c.drop_range.new.self.store) _ _ c.drop_range.new.self.core.history c.self.view_is (c.drop_range.ensures.gone tells)
 
 pub returns-then-self-clause-acts : goal.returns-then-self-clause-acts
 returns-then-self-clause-acts g c tells =

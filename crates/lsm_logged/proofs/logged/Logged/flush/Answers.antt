@@ -3,7 +3,7 @@ use Rattle.std.proofs.lemmas.Result.{err_from_is_err_and}
 use Rattle.lsm_below.specs.declared.error.Error.{Error}
 use Rattle.lsm_below.specs.declared.error.Error.TheVariants.{CommitUnknown, Unrecoverable}
 use Rattle.lsm_flush.specs.declared.jobs.Registered.{Registered}
-use Rattle.lsm_state.specs.Cleaning.{LeavesNoFiles, RemovesDrawn}
+use Rattle.lsm_state.specs.Cleaning.{LeavesNoVersions, RemovesDrawn}
 use Rattle.lsm_state.specs.Flushes.{sealed_ids}
 use Rattle.lsm_state.specs.WholeFlushes.{Flushes}
 use Rattle.lsm_logged.specs.Keeping.{SeenLogged}
@@ -139,7 +139,7 @@ returns-in-Some-clause-gone g c tells cleaned =
     let w = g.S.Store.world in
     let i = c.self.inside in
     let mid = c.flush.new.self in
-    let left = subst (λ (x : Option (ℕ × Registered)). IfSome x (λ p. p.1.cleaned ≡ true → LeavesNoFiles (w mid.store) [] i.tree.core.history mid.core.history)) c.in-Some.is (c.in_ok-flushed.ensures.gone tells) in
+    let left = subst (λ (x : Option (ℕ × Registered)). IfSome x (λ p. p.1.cleaned ≡ true → LeavesNoVersions (w mid.store) i.tree.core.history mid.core.history)) c.in-Some.is (c.in_ok-flushed.ensures.gone tells) in
     gone_behind w i.tree mid i.numbers.items i.doubted c.clean_log.new.self c.args.self.now c.self.view_is c.clean_log.ensures.cleans.core (c.clean_log.ensures.others tells) (left (c.clean_log.ensures.cleans.cleaned cleaned))
 
 pub returns-in-None-clause-rests : goal.returns-in-None-clause-rests

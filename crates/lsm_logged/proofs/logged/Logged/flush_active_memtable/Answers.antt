@@ -1,4 +1,4 @@
-use Rattle.std.proofs.Common.{◌≡◌, ℕ, ◌<◌, ◌^◌, true, List, None, IfSome, Ok, Err, ⊎_elim, inl, inr, refl, sym, ap, subst}
+use Rattle.std.proofs.Common.{◌≡◌, ℕ, ◌<◌, ◌^◌, true, List, None, IfSome, Ok, Err, ⊎_elim, inl, inr, refl, sym, ap, ◌∙◌, subst}
 use Rattle.lsm_below.specs.declared.error.Error.TheVariants.{CommitUnknown}
 use Rattle.lsm_commit.specs.Foreign.{AtRest}
 use Rattle.lsm_state.specs.Cleaning.{RemovesDrawn, none_drawn}
@@ -120,3 +120,6 @@ pub returns-in-Ok-flush-clause-gone : goal.returns-in-Ok-flush-clause-gone
 returns-in-Ok-flush-clause-gone g c tells =
     let new = c.flush.new.self in
     rotated_gone (g.S.Store.world new.store) c.in-Ok-flush.flushed c.args.self.now.core c.rotate_memtable.new.self.core c.in-Ok.sealed new.core.history c.in-Ok.ensures.ok (c.in-Ok-flush.ensures.gone tells)
+
+pub returns-in-Ok-flush-clause-rests : goal.returns-in-Ok-flush-clause-rests
+returns-in-Ok-flush-clause-rests g c none = c.in-Ok-flush.ensures.rests none ∙ c.in-Ok.ensures.store

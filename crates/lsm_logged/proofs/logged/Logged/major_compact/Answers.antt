@@ -15,7 +15,7 @@ invariant_of-self g c =
 
 pub returns-clause-gone : goal.returns-clause-gone
 returns-clause-gone g c tells =
-    leaves_seen (major_choice c.args.target) c.major_compact.result (g.S.Store.world c.major_compact.new.self.store) _ _ c.major_compact.new.self.core c.self.view_is (c.major_compact.ensures.gone tells)
+    leaves_seen c.major_compact.result (g.S.Store.world c.major_compact.new.self.store) _ _ c.major_compact.new.self.core.history c.self.view_is (c.major_compact.ensures.gone tells)
 
 pub returns-then-self-clause-acts : goal.returns-then-self-clause-acts
 returns-then-self-clause-acts g c tells =

@@ -1,10 +1,9 @@
-use Rattle.std.proofs.Common.{◌≡◌, ◌∙◌, ◌++◌, Ok, IfOk, ap, subst}
+use Rattle.std.proofs.Common.{◌≡◌, ◌∙◌, ◌++◌, Ok, ap, subst}
 use Rattle.lsm_versions.specs.Levels.{placed_of}
 use Rattle.lsm_state.specs.declared.compaction.Begun.TheVariants.{Installed}
 use Rattle.lsm_state.specs.Cleaning.{LeavesNoFiles}
-use Rattle.lsm_state.specs.Compactions.{given_up}
 use Rattle.lsm_recorded.specs.Recorded.{StaysBehind}
-use Rattle.lsm_recorded.proofs.CompactingLemmas.{begin_recorded, any_ok}
+use Rattle.lsm_recorded.proofs.CompactingLemmas.{begin_recorded}
 use Rattle.lsm_recorded.proofs.recorded.Recorded.begin_noted.Goals as goal
 
 pub invariant_of-self-2 : goal.invariant_of-self-2
@@ -20,12 +19,12 @@ returns-clause-views g c =
     subst (λ t. StaysBehind t.journal c.put_entries.new.journal.items t.tree.core begun.new.tree.core) c.self.view_is ((begin_recorded (placed_of i.opened.levels) i.least i.marks c.reads_are_sound.ensures i.floor c.put_entries.new.floor i.core.core begun.new.tree.core i.journal.items c.put_entries.new.journal.items c.noted_compactions_keep_reads.ensures c.args.chosen.answer c.args.options begun.result.0 begun.result.1.items begun.ensures.begins (c.put_entries.ensures.noted.behind ∙ ap (λ j. j ++ begun.result.1.items) c.make_copies-made.ensures.journal) c.put_entries.ensures.floor c.self.invariant).1)
 
 pub returns-in_default-clause-gone : goal.returns-in_default-clause-gone
-returns-in_default-clause-gone g c tells = any_ok _ c.args.chosen.answer (λ choice done. absurd (cc done))
+returns-in_default-clause-gone g c tells done = absurd (cc done)
 
 pub returns-clause-gone : goal.returns-clause-gone
 returns-clause-gone g c tells =
     let w = g.S.Store.world in
-    subst (λ t. IfOk c.args.chosen.answer (λ choice. c.begin_chosen-begun.result.0 ≡ Ok Installed → LeavesNoFiles (w c.begin_chosen-begun.new.tree.store) (given_up choice) t.tree.core.history c.begin_chosen-begun.new.tree.core.history)) c.self.view_is (c.begin_chosen-begun.ensures.gone tells)
+    subst (λ t. c.begin_chosen-begun.result.0 ≡ Ok Installed → LeavesNoFiles (w c.begin_chosen-begun.new.tree.store) t.tree.core.history c.begin_chosen-begun.new.tree.core.history) c.self.view_is (c.begin_chosen-begun.ensures.gone tells)
 
 pub returns-clause-rests : goal.returns-clause-rests
 returns-clause-rests g c = rw (← c.self.view_is) c.begin_chosen-begun.ensures.rests

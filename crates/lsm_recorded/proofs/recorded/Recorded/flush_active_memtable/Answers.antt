@@ -39,3 +39,6 @@ returns-clause-refused g c tells =
     let w = g.S.Store.world in
     let flushed = c.flush_active_noting-entries in
     subst (λ t. t.tree.core.next_table < 2 ^ 63 → IfErr flushed.result.0 (λ e. (e.0 ≡ CommitUnknown → ⊥) → RemovesDrawn t.tree.core.next_table flushed.new.tree.core.next_table (w t.tree.store) (w flushed.new.tree.store))) c.self.view_is (flushed.ensures.refused tells)
+
+pub returns-clause-rests : goal.returns-clause-rests
+returns-clause-rests g c = rw (← c.self.view_is) c.flush_active_noting-entries.ensures.rests

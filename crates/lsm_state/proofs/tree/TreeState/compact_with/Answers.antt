@@ -1,7 +1,7 @@
 use Rattle.lsm_state.proofs.OwnInputs.{compaction_here}
 use Rattle.lsm_state.proofs.Causing.{follows_cause}
 use Rattle.std.proofs.Common.{ap}
-use Rattle.lsm_state.proofs.Wholes.{whole_upholds, follows_leave, compaction_draws, refused_behind, rests_behind}
+use Rattle.lsm_state.proofs.Wholes.{whole_upholds, whole_leaves, compaction_draws, refused_behind, rests_behind}
 use Rattle.lsm_state.proofs.tree.TreeState.compact_with.Goals as goal
 
 pub returns-clause-upholds : goal.returns-clause-upholds
@@ -25,7 +25,7 @@ returns-clause-gone g c tells done =
     let mid = c.begin_with-begun.new.self in
     let new = c.follow.new.self in
     let begun = c.begin_with-begun in
-    follows_leave _ _ c.args.options (w mid.store) (w new.store) begun.result c.follow.result c.args.self.now.core mid.core new.core begun.ensures.begins c.follow.ensures.follows (begun.ensures.gone tells) (c.follow.ensures.gone tells) (λ is. ap w (c.follow.ensures.done is)) done
+    whole_leaves (w mid.store) (w new.store) _ _ c.args.options begun.result c.follow.result c.args.self.now.core mid.core new.core begun.ensures.begins c.follow.ensures.follows (begun.ensures.gone tells) (c.follow.ensures.gone tells) (λ is. ap w (c.follow.ensures.done is)) done
 
 pub returns-clause-refused : goal.returns-clause-refused
 returns-clause-refused g c tells =

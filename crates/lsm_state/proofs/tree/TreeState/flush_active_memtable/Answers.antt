@@ -1,7 +1,7 @@
-use Rattle.std.proofs.Common.{◌≡◌, ◌<◌, ◌^◌, ℕ, true, [], Option, Some, None, IfSome}
+use Rattle.std.proofs.Common.{◌≡◌, ◌<◌, ◌^◌, ℕ, true, Option, Some, None, IfSome}
 use Rattle.lsm_flush.specs.declared.jobs.Registered.{Registered}
 use Rattle.lsm_below.specs.declared.error.Error.TheVariants.{CommitUnknown}
-use Rattle.lsm_state.specs.Cleaning.{LeavesNoFiles, RemovesDrawn, none_drawn}
+use Rattle.lsm_state.specs.Cleaning.{LeavesNoVersions, RemovesDrawn, none_drawn}
 use Rattle.lsm_state.proofs.CleaningUp.{rotated_leaves}
 use Rattle.std.proofs.Common.{◌∙◌, sym, ap, subst, IsSome}
 use Rattle.lsm_state.specs.Core.{versions_left, written_of}
@@ -32,8 +32,8 @@ returns-in-Ok-flush-clause-gone g c tells =
     let old = c.args.self.now.core in
     let mid = c.rotate_memtable.new.self.core in
     let new = c.flush.new.self in
-    each_some (λ (p : ℕ × Registered). p.1.cleaned ≡ true → LeavesNoFiles (w new.store) [] mid.history new.core.history) (λ (p : ℕ × Registered). p.1.cleaned ≡ true → LeavesNoFiles (w new.store) [] old.history new.core.history) c.in-Ok-flush.flushed
-    (λ p left whole. rotated_leaves (w new.store) [] old mid c.in-Ok.sealed new.core.history c.in-Ok.ensures.ok (left whole)) (c.in-Ok-flush.ensures.gone tells)
+    each_some (λ (p : ℕ × Registered). p.1.cleaned ≡ true → LeavesNoVersions (w new.store) mid.history new.core.history) (λ (p : ℕ × Registered). p.1.cleaned ≡ true → LeavesNoVersions (w new.store) old.history new.core.history) c.in-Ok-flush.flushed
+    (λ p left whole. rotated_leaves (w new.store) old mid c.in-Ok.sealed new.core.history c.in-Ok.ensures.ok (left whole)) (c.in-Ok-flush.ensures.gone tells)
 
 pub returns-in-Err-clause-refused : goal.returns-in-Err-clause-refused
 returns-in-Err-clause-refused g c tells small known =
@@ -51,3 +51,6 @@ returns-in-Err-flush-clause-refused g c tells =
     let same = rotated_table old.core c.in-Ok.sealed mid.core c.in-Ok.ensures.ok in
     let did = subst (λ n. n < 2 ^ 63 → (c.in-Err-flush.error ≡ CommitUnknown → ⊥) → RemovesDrawn n new.core.next_table (w mid.store) (w new.store)) same (c.in-Err-flush.ensures.refused tells) in
     subst (λ s. old.core.next_table < 2 ^ 63 → (c.in-Err-flush.error ≡ CommitUnknown → ⊥) → RemovesDrawn old.core.next_table new.core.next_table (w s) (w new.store)) c.rotate_memtable.ensures.store did
+
+pub returns-in-Ok-flush-clause-rests : goal.returns-in-Ok-flush-clause-rests
+returns-in-Ok-flush-clause-rests g c none = c.in-Ok-flush.ensures.rests none ∙ c.rotate_memtable.ensures.store

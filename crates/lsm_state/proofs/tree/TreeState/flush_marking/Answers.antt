@@ -1,8 +1,8 @@
-use Rattle.std.proofs.Common.{◌≡◌, ◌<◌, ◌^◌, true, Err, IsSome, [], inl, inr, sym, ◌∙◌, rules}
+use Rattle.std.proofs.Common.{◌≡◌, ◌<◌, ◌^◌, true, Err, IsSome, inl, inr, sym, ◌∙◌, rules}
 use Rattle.lsm_below.specs.declared.error.Error.TheVariants.{CommitUnknown}
 use Rattle.lsm_commit.specs.Causes.{HasCause, BlamesStore, causes_then}
 use Rattle.lsm_state.specs.Kept.{KeepsTables}
-use Rattle.lsm_state.specs.Cleaning.{RemovesDrawn, LeavesNoFiles}
+use Rattle.lsm_state.specs.Cleaning.{RemovesDrawn, LeavesNoVersions}
 use Rattle.lsm_state.specs.WholeFlushes.{Flushes, MarksFlush}
 use Rattle.lsm_state.proofs.Installing.{upholds_join}
 use Rattle.lsm_state.proofs.Causing.{removes_then}
@@ -69,7 +69,7 @@ pub returns-in-Ok-clause-gone : goal.returns-in-Ok-clause-gone
 returns-in-Ok-clause-gone g c tells whole =
     let begins = subst (λ o. Begins (Ok o) c.args.self.now.core c.begin_flush.new.self.core) c.in-Some.is c.in_ok-job.ensures.begins in
     let done = flushed c.args.watermark c.args.self.now.core c.begin_flush.new.self.core c.write_job.new.self.core c.in-Some.job c.in_ok-written.written begins c.in_ok-written.ensures.writes c.register.new.self.core c.in-Ok.registered c.in-Ok.ensures.registers c.sealed_size-size.result c.sealed_size-size.ensures c.in-Ok.ensures.deeds in
-    subst (λ h. LeavesNoFiles (g.S.Store.world c.register.new.self.store) [] h c.register.new.self.core.history) (made_history c.args.watermark c.args.self.now.core c.begin_flush.new.self.core c.write_job.new.self.core c.in-Some.job c.in_ok-written.written begins c.in_ok-written.ensures.writes) (c.in-Ok.ensures.gone tells done.installs.installed whole)
+    subst (λ h. LeavesNoVersions (g.S.Store.world c.register.new.self.store) h c.register.new.self.core.history) (made_history c.args.watermark c.args.self.now.core c.begin_flush.new.self.core c.write_job.new.self.core c.in-Some.job c.in_ok-written.written begins c.in_ok-written.ensures.writes) (c.in-Ok.ensures.gone tells done.installs.installed whole)
 
 pub returns-in-Err-CommitUnknown-clause-flushes : goal.returns-in-Err-CommitUnknown-clause-flushes
 returns-in-Err-CommitUnknown-clause-flushes g c =

@@ -97,4 +97,4 @@ returns-clause-gone g c tells whole =
     let kept = tables_flushed job c.get-number.result i.history next flushed i.flush i.next_table may.closed same may.below c.self.invariant.1 in
     let low = subst (λ t. AllByRecursion (λ sv. sv.version.id < next.version.id) (versions_of t.core.history)) c.self.view_is kept.aged in
     let were = subst (λ (h : SeenHistory). AllByRecursion (λ sv. sv.version.id < h.latest.version.id → (w new.store).gives (version_name sv.version.id) ≡ None) (drop n h.older)) (ap (λ k. k.history) c.in_ok-commit.ensures.commits.ok) (c.clean_up-cleaned.ensures.gone tells whole) in
-    record { tables = λ i is. absurd (cc is); versions = gone_versions (w new.store) (w new.store) next.version.id (versions_of now.core.history) n low were (λ i. refl) }
+    gone_versions (w new.store) (w new.store) next.version.id (versions_of now.core.history) n low were (λ i. refl)

@@ -4,7 +4,7 @@ use Rattle.std.specs.List.{AllByRecursion}
 use Rattle.lsm_manifest.specs.Names.{version_name}
 use Rattle.lsm_parts.specs.History.{SeenHistory, versions_of}
 use Rattle.lsm_state.specs.Cleaning.{AreAbsent, LeavesNoFiles}
-use Rattle.lsm_state.proofs.CleaningUp.{gone_versions}
+use Rattle.lsm_state.proofs.CleaningUp.{gone_versions, gone_tables}
 use Rattle.lsm_commit.specs.Foreign.{Passes, passes_then}
 use Rattle.std.proofs.Common.{◌≡◌, ◌∷◌, true, ap, sym, subst, ◌∙◌, refl, option_to_list}
 use Rattle.lsm_versions.specs.Levels.{all_of}
@@ -96,5 +96,6 @@ returns-clause-gone g c tells =
     let gone = c.args.gone.now.keys in
     let were = subst (λ (h : SeenHistory). AllByRecursion (λ sv. sv.version.id < h.latest.version.id → (w new.store).gives (version_name sv.version.id) ≡ None) (drop n h.older)) (ap (λ k. k.history) c.in_ok-commit.ensures.commits.ok) (c.if-not-clean_up.ensures.gone tells refl) in
     let left = gone_versions (w new.store) (w end.store) c.args.version.id (versions_of now.core.history) n c.requires.tables.aged were (c.remove_gone.ensures.others tells) in
-    IfOk-weaker c.remove_gone.result (λ _. AreAbsent (w end.store) gone) (λ _. LeavesNoFiles (w end.store) gone now.core.history end.core.history)
-    (λ _ absent. record { tables = absent; versions = subst (λ k. AllByRecursion (λ sv. (w end.store).gives (version_name sv.version.id) ≡ None) (drop (length k.history.older) (versions_of now.core.history))) (sym c.remove_gone.ensures.core) left }) (c.remove_gone.ensures.gone tells)
+    let version = ap (λ k. k.history.latest.version) c.remove_gone.ensures.core ∙ ap (λ sv. sv.version) c.clean_up.ensures.cleans.history.latest ∙ ap (λ k. k.history.latest.version) c.in_ok-commit.ensures.commits.ok in
+    IfOk-weaker c.remove_gone.result (λ _. AreAbsent (w end.store) gone) (λ _. LeavesNoFiles (w end.store) now.core.history end.core.history)
+    (λ _ absent. record { tables = gone_tables (w end.store) gone c.args.version end.core.history.latest.version (all_of now.core.history.latest.version.levels) version c.requires.covers absent; versions = subst (λ k. AllByRecursion (λ sv. (w end.store).gives (version_name sv.version.id) ≡ None) (drop (length k.history.older) (versions_of now.core.history))) (sym c.remove_gone.ensures.core) left }) (c.remove_gone.ensures.gone tells)
