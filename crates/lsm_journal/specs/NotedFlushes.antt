@@ -27,11 +27,6 @@ FlushesNoted w r events old new = (marked : Bool) × (events ≡ flush_events w 
 abbrev pub FlushesRotated : ℕ → Option ℕ → Result (Option (ℕ × Registered)) Error → List Event → Core → Core → Type 0
 FlushesRotated w id r events old new = (mid : Core) × Rotates old id mid × FlushesNoted w r events mid new
 
--- what it answers: the memtable that was sealed, beside the answer of the flush or its refusal
-abbrev pub answer_behind : Option ℕ → Result (Option (ℕ × Registered)) Error → Result (Option ℕ × Option (ℕ × Registered)) (Error × Option ℕ)
-answer_behind id (Ok a) = Ok (id, a)
-answer_behind id (Err e) = Err (e, id)
-
 -- a flush of the active memtable; where its rotation is refused, nothing is told
 pub record FlushesActiveNoted (w : ℕ) (r : Result (Option ℕ × Option (ℕ × Registered)) (Error × Option ℕ)) (events : List Event) (old new : Core) : Type 0 where
   pub ok : IfOk r (λ a. FlushesRotated w a.0 (Ok a.1) events old new)

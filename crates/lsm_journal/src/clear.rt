@@ -1,8 +1,8 @@
 // A clear, and what is noted of it.
-ghost use Rattle.std.specs.Prelude.{◌≡◌, ◌∷◌, [], length, take, IsSome, IfOk};
+ghost use Rattle.std.specs.Prelude.{◌≡◌, ◌∷◌, [], length, take, IfOk};
 ghost use Rattle.lsm_model.specs.declared.journal.JournalEntry.TheVariants.{Clear};
-ghost use Rattle.lsm_commit.specs.Causes.{HasCause, Blames};
 ghost use Rattle.lsm_state.specs.Commits.{Upholds};
+ghost use Rattle.lsm_state.specs.Files.{ClearsFiles};
 ghost use Rattle.lsm_journal.specs.NotedClears.{ClearsNoted};
 
 use crate::lists::{cut, one_entry};
@@ -30,11 +30,9 @@ pub fn clear_noting<S: Store>(
     ensures clears { ClearsNoted result.0 result.1.items tree.old.core tree.new.core }
     // Copies that were made before can be cut to what is noted.
     ensures front { result.1.items ≡ take (length result.1.items) entries.items }
-    // What a crash leaves.
+    // What a crash leaves, and what the call does to files.
     ensures upholds { S.tells → Upholds (S.world tree.old.store) (S.world tree.new.store) tree.old.core tree.new.core }
-    // The store is blamed only where a call of it failed.
-    ensures causes { HasCause (Blames result.0) (S.world tree.old.store) (S.world tree.new.store) }
-    ensures no_call { IsSome tree.old.core.lost → tree.new.store ≡ tree.old.store }
+    ensures files { ClearsFiles result.0 S.tells S.world tree.old tree.new }
 {
     match tree.clear() {
         Ok(number) => (Ok(number), entries),

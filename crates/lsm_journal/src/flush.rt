@@ -1,19 +1,17 @@
 // Flushes, and what is noted of them.
-ghost use Rattle.std.specs.Prelude.{◌≡◌, ◌⊎◌, ◌<◌, ◌∷◌, [], ℕ, None, map, true, false, length, take, IsSome, IfOk, IfErr, IfSome, IsErrOf};
+ghost use Rattle.std.specs.Prelude.{◌≡◌, ◌∷◌, [], ℕ, None, length, take, IfOk};
 ghost use Rattle.lsm_model.specs.declared.journal.JournalEntry.TheVariants.{Mark, Install};
-ghost use Rattle.lsm_commit.specs.Causes.{HasCause};
-ghost use Rattle.lsm_state.specs.Causes.{BlamesOrUnclean, BlamesOrUncleanFlush, BlamesOrUncleanBehind};
-ghost use Rattle.lsm_state.specs.Cleaning.{LeavesNoVersions, RemovesDrawn, RemovesTables};
 ghost use Rattle.lsm_state.specs.Commits.{Upholds};
-ghost use Rattle.lsm_state.specs.Flushes.{IsCurrent};
+ghost use Rattle.lsm_state.specs.WholeFlushes.{answer_behind};
 ghost use Rattle.lsm_state.specs.FlushReads.{register_events, flush_events};
-ghost use Rattle.lsm_journal.specs.NotedFlushes.{RegistersNoted, FlushesNoted, FlushesActiveNoted, answer_behind};
+ghost use Rattle.lsm_state.specs.Files.{RegistersFiles, FlushesFiles, FlushesActiveFiles};
+ghost use Rattle.lsm_journal.specs.NotedFlushes.{RegistersNoted, FlushesNoted, FlushesActiveNoted};
 
 use crate::lists::{cut, one_entry};
 use lsm_below::{MemtableId, SeqNo};
 use lsm_flush::{Registered, WrittenFlush};
 use lsm_model::JournalEntry;
-use lsm_parts::{Error, LIMIT};
+use lsm_parts::Error;
 use lsm_state::TreeState;
 use lsm_store::Store;
 use std::alloc::{AllocError, Global};
@@ -69,17 +67,9 @@ pub fn register_noting<S: Store>(
     ensures registers { RegistersNoted job result.0 result.1.items tree.old.core tree.new.core }
     // Copies that were made before can be cut to what is noted.
     ensures front { result.1.items ≡ take (length result.1.items) entries.items }
-    // What a crash leaves.
+    // What a crash leaves, and what the call does to files.
     ensures upholds { S.tells → Upholds (S.world tree.old.store) (S.world tree.new.store) tree.old.core tree.new.core }
-    // The store is blamed only where a call of it failed.
-    ensures causes { HasCause (BlamesOrUnclean result.0) (S.world tree.old.store) (S.world tree.new.store) }
-    // Behind a whole clean-up no file is left of what went.
-    ensures gone { S.tells → IfOk result.0 (λ a. a.installed ≡ true → a.cleaned ≡ true → LeavesNoVersions (S.world tree.new.store) tree.old.core.history tree.new.core.history) }
-    // Where the job is stale, no call of the store is made.
-    ensures rests { IfOk result.0 (λ a. a.installed ≡ false → tree.new.store ≡ tree.old.store) }
-    // Where the counter or the level was full, no file is left of a current job, unless a call of the store failed.
-    ensures refused { S.tells → IsCurrent job tree.old.core → IsErrOf result.0 Error.OutOfNumbers ⊎ IsErrOf result.0 Error.TooManyRuns → RemovesTables (map (λ t. t.id) job.tables) (S.world tree.old.store) (S.world tree.new.store) }
-    ensures no_call { IsSome tree.old.core.lost → tree.new.store ≡ tree.old.store }
+    ensures files { RegistersFiles job result.0 S.tells S.world tree.old tree.new }
 {
     let registered = tree.register_tables(job);
     let count = count_registered(&registered);
@@ -97,17 +87,9 @@ pub fn flush_noting<S: Store>(
     ensures flushes { FlushesNoted watermark result.0 result.1.items tree.old.core tree.new.core }
     // Copies that were made before can be cut to what is noted.
     ensures front { result.1.items ≡ take (length result.1.items) entries.items }
-    // What a crash leaves.
+    // What a crash leaves, and what the call does to files.
     ensures upholds { S.tells → Upholds (S.world tree.old.store) (S.world tree.new.store) tree.old.core tree.new.core }
-    // The store is blamed only where a call of it failed.
-    ensures causes { HasCause (BlamesOrUncleanFlush result.0) (S.world tree.old.store) (S.world tree.new.store) }
-    // Behind a whole clean-up no file is left of what went.
-    ensures gone { S.tells → IfOk result.0 (λ a. IfSome a (λ p. p.1.cleaned ≡ true → LeavesNoVersions (S.world tree.new.store) tree.old.core.history tree.new.core.history)) }
-    // Where nothing is sealed no call of the store is made.
-    ensures rests { IfOk result.0 (λ a. a ≡ None → tree.new.store ≡ tree.old.store) }
-    // Refused, no table's file is left of what it wrote, unless a call of the store failed, or the outcome of a commit is unknown.
-    ensures refused { S.tells → tree.old.core.next_table < LIMIT → IfErr result.0 (λ e. (e ≡ Error.CommitUnknown → ⊥) → RemovesDrawn tree.old.core.next_table tree.new.core.next_table (S.world tree.old.store) (S.world tree.new.store)) }
-    ensures no_call { IsSome tree.old.core.lost → tree.new.store ≡ tree.old.store }
+    ensures files { FlushesFiles result.0 S.tells S.world tree.old tree.new }
 {
     let (flushed, marked) = tree.flush_with_mark(watermark);
     let count = count_flushed(marked, &flushed);
@@ -142,17 +124,9 @@ pub fn flush_active_noting<S: Store>(
     ensures flushes { FlushesActiveNoted watermark result.0 result.1.items tree.old.core tree.new.core }
     // Copies that were made before can be cut to what is noted.
     ensures front { result.1.items ≡ take (length result.1.items) entries.items }
-    // What a crash leaves.
+    // What a crash leaves, and what the call does to files.
     ensures upholds { S.tells → Upholds (S.world tree.old.store) (S.world tree.new.store) tree.old.core tree.new.core }
-    // The store is blamed only where a call of it failed.
-    ensures causes { HasCause (BlamesOrUncleanBehind result.0) (S.world tree.old.store) (S.world tree.new.store) }
-    // Behind a whole clean-up no file is left of what went.
-    ensures gone { S.tells → IfOk result.0 (λ a. IfSome a.1 (λ p. p.1.cleaned ≡ true → LeavesNoVersions (S.world tree.new.store) tree.old.core.history tree.new.core.history)) }
-    // Where nothing is flushed no call of the store is made.
-    ensures rests { IfOk result.0 (λ a. a.1 ≡ None → tree.new.store ≡ tree.old.store) }
-    // Refused, no table's file is left of what it wrote, unless a call of the store failed, or the outcome of a commit is unknown.
-    ensures refused { S.tells → tree.old.core.next_table < LIMIT → IfErr result.0 (λ e. (e.0 ≡ Error.CommitUnknown → ⊥) → RemovesDrawn tree.old.core.next_table tree.new.core.next_table (S.world tree.old.store) (S.world tree.new.store)) }
-    ensures no_call { IsSome tree.old.core.lost → tree.new.store ≡ tree.old.store }
+    ensures files { FlushesActiveFiles result.0 S.tells S.world tree.old tree.new }
 {
     tree.is_upheld();
     let sealed = match tree.rotate_memtable() {

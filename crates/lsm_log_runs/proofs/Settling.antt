@@ -1,6 +1,6 @@
 -- A store of which each image that a crash may leave stands, and whose log isn't bad in any, can be opened: what its log reads can be put on
 -- the disk.
-use Rattle.std.proofs.Common.{◌≡◌, ⊎_elim, inl, inr, ℕ, true, false, List, [], Option, Some, IsSome, refl, sym, ap, ◌∙◌, subst, codes}
+use Rattle.std.proofs.Common.{◌≡◌, inl, inr, ℕ, true, false, List, [], Option, Some, IsSome, refl, sym, ap, ◌∙◌, subst, codes}
 use Rattle.std.specs.Prelude.{nat_eq, unwrap_or}
 use Rattle.std.specs.List.{starts_with}
 use Rattle.std.proofs.lemmas.Bool.{both_ways}

@@ -1,9 +1,10 @@
 -- Behind a removal of records no file is left of the versions and orphans of which a commit, or an opening, before it left none.
-use Rattle.std.proofs.Common.{◌≡◌, ◌≢◌, ℕ, Bool, true, false, List, get_or, drop, length, Option, Some, None, IfSome, Contains, arith, sym, ap, ◌∙◌, subst}
+use Rattle.std.proofs.Common.{◌≡◌, ◌≢◌, ◌⊎◌, inl, inr, refl, ℕ, Bool, true, false, List, get_or, drop, length, None, Contains, arith, sym, ap, ◌∙◌, subst}
 use Rattle.lsm_below.specs.Each.{each_weaker}
 use Rattle.lsm_store.specs.World.{World}
 use Rattle.lsm_manifest.specs.Kinds.{is_orphan}
 use Rattle.lsm_manifest.specs.Names.{version_name}
+use Rattle.lsm_commit.specs.Causes.{HasCause, causes_then}
 use Rattle.lsm_commit.specs.Foreign.{IsForeign}
 use Rattle.lsm_commit.proofs.PassingOpened.{no_orphan}
 use Rattle.lsm_log.specs.LogNames.{record_name}
@@ -12,9 +13,7 @@ use Rattle.lsm_flush.specs.declared.jobs.Registered.{Registered}
 use Rattle.lsm_parts.specs.declared.version.super_version.SuperVersion.{SuperVersion}
 use Rattle.lsm_parts.specs.History.{SeenHistory, versions_of}
 use Rattle.lsm_state.specs.Core.{Core, Seen}
-use Rattle.lsm_state.specs.Calls.{Rotates}
 use Rattle.lsm_state.specs.Cleaning.{LeavesNoVersions}
-use Rattle.lsm_state.proofs.CleaningUp.{rotated_leaves}
 use Rattle.lsm_logged.specs.Keeping.{SeenLogged}
 use Rattle.lsm_logged.specs.Removing.{KeepsRest}
 use Rattle.lsm_logged.proofs.LogNames.{record_is_foreign}
@@ -39,8 +38,10 @@ gone_behind world tree mid numbers doubted new seen view same keeps left =
     subst (λ t. LeavesNoVersions (world new.store) t.core.history new.core.history) view
     (subst (λ (k : Core). LeavesNoVersions (world new.store) tree.core.history k.history) (sym same) (still_gone numbers (world mid.store) (world new.store) tree.core.history mid.core.history keeps left))
 
--- behind a rotation and a flush, where the flush cleaned all up
-pub rotated_gone : (w : World) (flushed : Option (ℕ × Registered)) (old mid : Core) (id : Option ℕ) (new : SeenHistory) → Rotates old id mid
-    → IfSome flushed (λ p. p.1.cleaned ≡ true → LeavesNoVersions w mid.history new) → IfSome flushed (λ p. p.1.cleaned ≡ true → LeavesNoVersions w old.history new)
-rotated_gone w None old mid id new rotates left = left
-rotated_gone w (Some p) old mid id new rotates left = λ whole. rotated_leaves w old mid id new rotates (left whole)
+-- a removal of records behind a registered flush: what is unclean then was so before, or became so
+pub cleaned_cause : (flushed r : Registered) (old mid new : World) → HasCause (flushed.cleaned ≡ false) old mid → HasCause (flushed.cleaned ≡ true × r.cleaned ≡ false) mid new → HasCause (r.cleaned ≡ false) old new
+cleaned_cause flushed r old mid new first second = causes_then _ _ _ old mid new first second (either flushed.cleaned refl)
+  where
+    either : (b : Bool) → flushed.cleaned ≡ b → r.cleaned ≡ false → (flushed.cleaned ≡ false) ⊎ (flushed.cleaned ≡ true × r.cleaned ≡ false)
+    either true is unclean = inr (is, unclean)
+    either false is unclean = inl is

@@ -12,7 +12,7 @@ use Rattle.lsm_log.specs.LogNames.{record_name, kind_of}
 use Rattle.lsm_log.specs.Records.{IsRecordOf}
 use Rattle.lsm_log_model.specs.Records.{Batch}
 use Rattle.lsm_log_model.specs.Logs.{Logged as Log, lost_of}
-use Rattle.lsm_state.specs.Core.{Core}
+use Rattle.lsm_state.specs.Core.{Core, Seen}
 use Rattle.lsm_state.specs.Deeds.{saved_of}
 use Rattle.lsm_state.specs.Kept.{IsKeptTree}
 
@@ -22,6 +22,10 @@ pub record SeenLogged (S : Type 0) : Type 0 where
   pub core : Core
   pub numbers : List ℕ
   pub doubted : Bool
+
+-- the tree below its log
+abbrev pub tree_of : {S : Type 0} → SeenLogged S → Seen S
+tree_of t = record { store = t.store; core = t.core }
 
 -- numbers of records rise, and are below the next one
 pub record AreRecordNumbers (next : ℕ) (numbers : List ℕ) : Type 0 where

@@ -1,17 +1,16 @@
 // Compactions of a logged tree.
-ghost use Rattle.std.specs.Prelude.{◌≡◌, ◌<◌, ◌^◌, true, Ok, IfOk};
+ghost use Rattle.std.specs.Prelude.{◌≡◌, ◌<◌, ◌^◌, true};
 ghost use Rattle.lsm_below.specs.Numbers.{PlainNumbersAreRead};
-ghost use Rattle.lsm_commit.specs.Causes.{HasCause, Blames};
-ghost use Rattle.lsm_state.specs.Cleaning.{LeavesNoFiles, RemovesRefused};
 ghost use Rattle.lsm_state.specs.Commits.{Upholds};
 ghost use Rattle.lsm_state.specs.CompactionDeeds.{CompactionsAreDeeds};
-ghost use Rattle.lsm_state.specs.Compactions.{InstallsOrRests, EndsOrRests, BeginsChoice, BeginsCompaction, Finishes, Spends};
+ghost use Rattle.lsm_state.specs.Compactions.{BeginsChoice, BeginsCompaction, Finishes, Spends};
 ghost use Rattle.lsm_state.specs.FlushLaws.{FlushesAreDeeds};
 ghost use Rattle.lsm_state.specs.Kept.{IsKeptTree};
-ghost use Rattle.lsm_state.specs.WholeCompactions.{CompactsChoice, Compacts, DropsRange, options_at, only_memory, major_choice, drop_choice};
+ghost use Rattle.lsm_state.specs.WholeCompactions.{CompactsChoice, Compacts, DropsRange, options_at, only_memory, major_choice};
+ghost use Rattle.lsm_state.specs.Files.{BeginsFiles, FinishesFiles, CompactsFiles};
 ghost use Rattle.lsm_logged.specs.Acting.{ActsNot, IsMerging, DropsWithin, CompactsBy, CompactsAct, MergesAct};
 ghost use Rattle.lsm_logged.specs.Asking.{Asks};
-ghost use Rattle.lsm_logged.specs.Keeping.{is_unsure};
+ghost use Rattle.lsm_logged.specs.Keeping.{is_unsure, tree_of};
 
 use crate::Logged;
 use lsm_below::{Error, SeqNo, plain_numbers_are_read};
@@ -21,6 +20,22 @@ use lsm_pick::{Choice, CompactionStrategy, OwnedBounds};
 use lsm_state::{Begun, Finished, Options, compactions_are_deeds, flushes_are_deeds};
 use lsm_store::Store;
 
+/// A call of the tree below, unless a record has unknown outcome.
+macro_rules! unless_doubted {
+    ($logged:expr, $call:ident($($argument:expr),+)) => {{
+        $logged.acts_are_known();
+        $logged.tree.is_upheld();
+        if $logged.doubted {
+            return Err(Error::Unrecoverable);
+        }
+        $logged.tree.$call($($argument),+)
+    }};
+}
+
+/// Compactions, each as that of the tree below it. Their clauses say what a call answers and does (`asks`); what it is to the
+/// theory of the log (`acts`), most often an installed compaction, or one of unknown outcome, else the mark of its watermark;
+/// what a crash leaves of the tree's files and of names that are none of its own (`upholds`); what it does to files (`files`);
+/// and that after an unknown outcome it makes no call of the store (`no_call`).
 impl<S: Store> Logged<S> {
     /// What the acts of compactions are told from: laws, and what every logged tree meets.
     fn acts_are_known(&self)
@@ -44,25 +59,12 @@ impl<S: Store> Logged<S> {
     /// As that call, and `Unrecoverable` also where a record has unknown outcome.
     pub fn begin_choice(&mut self, choice: Choice, options: Options) -> Result<Begun, Error>
         ensures asks { Asks result self.old self.new (BeginsChoice choice options result self.old.core self.new.core) }
-        // As the theory sees it: an installed compaction, or one of unknown outcome, else the mark of its watermark.
         ensures acts { S.tells → CompactsAct options.mvcc_gc_watermark result (S.world self.old.store) (S.world self.new.store) self.old self.new }
-        // What a crash leaves, of the tree's files and of names that are none of its own.
         ensures upholds { S.tells → Upholds (S.world self.old.store) (S.world self.new.store) self.old.core self.new.core }
-        // The store is blamed only where a call of it failed.
-        ensures causes { HasCause (Blames result) (S.world self.old.store) (S.world self.new.store) }
-        // Behind a whole clean-up no file is left of what went.
-        ensures gone { S.tells → result ≡ Ok Begun.Installed → LeavesNoFiles (S.world self.new.store) self.old.core.history self.new.core.history }
-        // Where nothing is installed, and nothing refused, no call of the store is made.
-        ensures rests { IfOk result (λ b. InstallsOrRests b self.old.store self.new.store) }
-        // After an unknown outcome no call of the store is made.
+        ensures files { BeginsFiles result S.tells S.world (tree_of self.old) (tree_of self.new) }
         ensures no_call { is_unsure self.old ≡ true → self.new.store ≡ self.old.store }
     {
-        self.acts_are_known();
-        self.tree.is_upheld();
-        if self.doubted {
-            return Err(Error::Unrecoverable);
-        }
-        self.tree.begin_choice(choice, options)
+        unless_doubted!(self, begin_choice(choice, options))
     }
 
     /// `TreeState::begin_compaction`.
@@ -76,25 +78,12 @@ impl<S: Store> Logged<S> {
         options: Options,
     ) -> Result<Begun, Error>
         ensures asks { Asks result self.old self.new (BeginsCompaction (may_choose strategy.now) (may_refuse strategy.now) options result self.old.core self.new.core) }
-        // As the theory sees it: an installed compaction, or one of unknown outcome, else the mark of its watermark.
         ensures acts { S.tells → CompactsAct options.mvcc_gc_watermark result (S.world self.old.store) (S.world self.new.store) self.old self.new }
-        // What a crash leaves, of the tree's files and of names that are none of its own.
         ensures upholds { S.tells → Upholds (S.world self.old.store) (S.world self.new.store) self.old.core self.new.core }
-        // The store is blamed only where a call of it failed.
-        ensures causes { HasCause (Blames result) (S.world self.old.store) (S.world self.new.store) }
-        // Behind a whole clean-up no file is left of what went.
-        ensures gone { S.tells → result ≡ Ok Begun.Installed → LeavesNoFiles (S.world self.new.store) self.old.core.history self.new.core.history }
-        // Where nothing is installed, and nothing refused, no call of the store is made.
-        ensures rests { IfOk result (λ b. InstallsOrRests b self.old.store self.new.store) }
-        // After an unknown outcome no call of the store is made.
+        ensures files { BeginsFiles result S.tells S.world (tree_of self.old) (tree_of self.new) }
         ensures no_call { is_unsure self.old ≡ true → self.new.store ≡ self.old.store }
     {
-        self.acts_are_known();
-        self.tree.is_upheld();
-        if self.doubted {
-            return Err(Error::Unrecoverable);
-        }
-        self.tree.begin_compaction(strategy, options)
+        unless_doubted!(self, begin_compaction(strategy, options))
     }
 
     /// `TreeState::begin_with`.
@@ -108,25 +97,12 @@ impl<S: Store> Logged<S> {
         options: Options,
     ) -> Result<Begun, Error>
         ensures asks { Asks result self.old self.new (BeginsCompaction (C.may_choose strategy.now) (C.may_refuse strategy.now) options result self.old.core self.new.core) }
-        // As the theory sees it: an installed compaction, or one of unknown outcome, else the mark of its watermark.
         ensures acts { S.tells → CompactsAct options.mvcc_gc_watermark result (S.world self.old.store) (S.world self.new.store) self.old self.new }
-        // What a crash leaves, of the tree's files and of names that are none of its own.
         ensures upholds { S.tells → Upholds (S.world self.old.store) (S.world self.new.store) self.old.core self.new.core }
-        // The store is blamed only where a call of it failed.
-        ensures causes { HasCause (Blames result) (S.world self.old.store) (S.world self.new.store) }
-        // Behind a whole clean-up no file is left of what went.
-        ensures gone { S.tells → result ≡ Ok Begun.Installed → LeavesNoFiles (S.world self.new.store) self.old.core.history self.new.core.history }
-        // Where nothing is installed, and nothing refused, no call of the store is made.
-        ensures rests { IfOk result (λ b. InstallsOrRests b self.old.store self.new.store) }
-        // After an unknown outcome no call of the store is made.
+        ensures files { BeginsFiles result S.tells S.world (tree_of self.old) (tree_of self.new) }
         ensures no_call { is_unsure self.old ≡ true → self.new.store ≡ self.old.store }
     {
-        self.acts_are_known();
-        self.tree.is_upheld();
-        if self.doubted {
-            return Err(Error::Unrecoverable);
-        }
-        self.tree.begin_with(strategy, options)
+        unless_doubted!(self, begin_with(strategy, options))
     }
 
     /// `TreeState::finish_compaction`.
@@ -138,25 +114,11 @@ impl<S: Store> Logged<S> {
         ensures asks { Asks result self.old self.new (Finishes merged.job result self.old.core self.new.core) }
         // As the theory sees it: a merge behind the mark of its beginning, or one of unknown outcome, else nothing.
         ensures acts { S.tells → MergesAct merged.job result (S.world self.old.store) (S.world self.new.store) self.old self.new }
-        // What a crash leaves, of the tree's files and of names that are none of its own.
         ensures upholds { S.tells → Upholds (S.world self.old.store) (S.world self.new.store) self.old.core self.new.core }
-        // The store is blamed only where a call of it failed.
-        ensures causes { HasCause (Blames result) (S.world self.old.store) (S.world self.new.store) }
-        // Behind a whole clean-up no file is left of what went.
-        ensures gone { S.tells → result ≡ Ok Finished.Installed → LeavesNoFiles (S.world self.new.store) self.old.core.history self.new.core.history }
-        // Where nothing is installed, and nothing refused, no call of the store is made.
-        ensures rests { IfOk result (λ f. EndsOrRests f self.old.store self.new.store) }
-        // Refused, no table's file is left of what it wrote, unless a call of the store failed, or a version may name it.
-        ensures refused { S.tells → RemovesRefused result self.old.core self.new.core (S.world self.old.store) (S.world self.new.store) }
-        // After an unknown outcome no call of the store is made.
+        ensures files { FinishesFiles result S.tells S.world (tree_of self.old) (tree_of self.new) }
         ensures no_call { is_unsure self.old ≡ true → self.new.store ≡ self.old.store }
     {
-        self.acts_are_known();
-        self.tree.is_upheld();
-        if self.doubted {
-            return Err(Error::Unrecoverable);
-        }
-        self.tree.finish_compaction(merged)
+        unless_doubted!(self, finish_compaction(merged))
     }
 
     /// `TreeState::abandon_compaction`.
@@ -178,27 +140,12 @@ impl<S: Store> Logged<S> {
     /// As that call, and `Unrecoverable` also where a record has unknown outcome.
     pub fn compact_choice(&mut self, choice: Choice, options: Options) -> Result<Begun, Error>
         ensures asks { Asks result self.old self.new (CompactsChoice choice options result self.old.core self.new.core) }
-        // As the theory sees it: an installed compaction, or one of unknown outcome, else the mark of its watermark.
         ensures acts { S.tells → CompactsAct options.mvcc_gc_watermark result (S.world self.old.store) (S.world self.new.store) self.old self.new }
-        // What a crash leaves, of the tree's files and of names that are none of its own.
         ensures upholds { S.tells → Upholds (S.world self.old.store) (S.world self.new.store) self.old.core self.new.core }
-        // The store is blamed only where a call of it failed.
-        ensures causes { HasCause (Blames result) (S.world self.old.store) (S.world self.new.store) }
-        // Behind a whole clean-up no file is left of what went.
-        ensures gone { S.tells → result ≡ Ok Begun.Installed → LeavesNoFiles (S.world self.new.store) self.old.core.history self.new.core.history }
-        // Where nothing is installed, and nothing refused, no call of the store is made.
-        ensures rests { IfOk result (λ b. InstallsOrRests b self.old.store self.new.store) }
-        // Refused, no table's file is left of what it wrote, unless a call of the store failed, or a version may name it.
-        ensures refused { S.tells → RemovesRefused result self.old.core self.new.core (S.world self.old.store) (S.world self.new.store) }
-        // After an unknown outcome no call of the store is made.
+        ensures files { CompactsFiles result S.tells S.world (tree_of self.old) (tree_of self.new) }
         ensures no_call { is_unsure self.old ≡ true → self.new.store ≡ self.old.store }
     {
-        self.acts_are_known();
-        self.tree.is_upheld();
-        if self.doubted {
-            return Err(Error::Unrecoverable);
-        }
-        self.tree.compact_choice(choice, options)
+        unless_doubted!(self, compact_choice(choice, options))
     }
 
     /// `TreeState::compact`.
@@ -212,27 +159,12 @@ impl<S: Store> Logged<S> {
         watermark: SeqNo,
     ) -> Result<Begun, Error>
         ensures asks { Asks result self.old self.new (Compacts (may_choose strategy.now) (may_refuse strategy.now) (options_at watermark self.old.core) result self.old.core self.new.core) }
-        // As the theory sees it: an installed compaction, or one of unknown outcome, else the mark of its watermark.
         ensures acts { S.tells → CompactsAct watermark result (S.world self.old.store) (S.world self.new.store) self.old self.new }
-        // What a crash leaves, of the tree's files and of names that are none of its own.
         ensures upholds { S.tells → Upholds (S.world self.old.store) (S.world self.new.store) self.old.core self.new.core }
-        // The store is blamed only where a call of it failed.
-        ensures causes { HasCause (Blames result) (S.world self.old.store) (S.world self.new.store) }
-        // Behind a whole clean-up no file is left of what went.
-        ensures gone { S.tells → result ≡ Ok Begun.Installed → LeavesNoFiles (S.world self.new.store) self.old.core.history self.new.core.history }
-        // Where nothing is installed, and nothing refused, no call of the store is made.
-        ensures rests { IfOk result (λ b. InstallsOrRests b self.old.store self.new.store) }
-        // Refused, no table's file is left of what it wrote, unless a call of the store failed, or a version may name it.
-        ensures refused { S.tells → RemovesRefused result self.old.core self.new.core (S.world self.old.store) (S.world self.new.store) }
-        // After an unknown outcome no call of the store is made.
+        ensures files { CompactsFiles result S.tells S.world (tree_of self.old) (tree_of self.new) }
         ensures no_call { is_unsure self.old ≡ true → self.new.store ≡ self.old.store }
     {
-        self.acts_are_known();
-        self.tree.is_upheld();
-        if self.doubted {
-            return Err(Error::Unrecoverable);
-        }
-        self.tree.compact(strategy, watermark)
+        unless_doubted!(self, compact(strategy, watermark))
     }
 
     /// `TreeState::compact_with`.
@@ -246,27 +178,12 @@ impl<S: Store> Logged<S> {
         options: Options,
     ) -> Result<Begun, Error>
         ensures asks { Asks result self.old self.new (Compacts (C.may_choose strategy.now) (C.may_refuse strategy.now) options result self.old.core self.new.core) }
-        // As the theory sees it: an installed compaction, or one of unknown outcome, else the mark of its watermark.
         ensures acts { S.tells → CompactsAct options.mvcc_gc_watermark result (S.world self.old.store) (S.world self.new.store) self.old self.new }
-        // What a crash leaves, of the tree's files and of names that are none of its own.
         ensures upholds { S.tells → Upholds (S.world self.old.store) (S.world self.new.store) self.old.core self.new.core }
-        // The store is blamed only where a call of it failed.
-        ensures causes { HasCause (Blames result) (S.world self.old.store) (S.world self.new.store) }
-        // Behind a whole clean-up no file is left of what went.
-        ensures gone { S.tells → result ≡ Ok Begun.Installed → LeavesNoFiles (S.world self.new.store) self.old.core.history self.new.core.history }
-        // Where nothing is installed, and nothing refused, no call of the store is made.
-        ensures rests { IfOk result (λ b. InstallsOrRests b self.old.store self.new.store) }
-        // Refused, no table's file is left of what it wrote, unless a call of the store failed, or a version may name it.
-        ensures refused { S.tells → RemovesRefused result self.old.core self.new.core (S.world self.old.store) (S.world self.new.store) }
-        // After an unknown outcome no call of the store is made.
+        ensures files { CompactsFiles result S.tells S.world (tree_of self.old) (tree_of self.new) }
         ensures no_call { is_unsure self.old ≡ true → self.new.store ≡ self.old.store }
     {
-        self.acts_are_known();
-        self.tree.is_upheld();
-        if self.doubted {
-            return Err(Error::Unrecoverable);
-        }
-        self.tree.compact_with(strategy, options)
+        unless_doubted!(self, compact_with(strategy, options))
     }
 
     /// `TreeState::major_compact`.
@@ -278,25 +195,11 @@ impl<S: Store> Logged<S> {
         ensures asks { Asks result self.old self.new (Compacts (major_choice target) only_memory (options_at watermark self.old.core) result self.old.core self.new.core) }
         // As the theory sees it: an installed merge, or one of unknown outcome, else the mark of its watermark. Nothing is dropped.
         ensures acts { S.tells → CompactsBy (IsMerging watermark) watermark result (S.world self.old.store) (S.world self.new.store) self.old self.new }
-        // What a crash leaves, of the tree's files and of names that are none of its own.
         ensures upholds { S.tells → Upholds (S.world self.old.store) (S.world self.new.store) self.old.core self.new.core }
-        // The store is blamed only where a call of it failed.
-        ensures causes { HasCause (Blames result) (S.world self.old.store) (S.world self.new.store) }
-        // Behind a whole clean-up no file is left of what went.
-        ensures gone { S.tells → result ≡ Ok Begun.Installed → LeavesNoFiles (S.world self.new.store) self.old.core.history self.new.core.history }
-        // Where nothing is installed, and nothing refused, no call of the store is made.
-        ensures rests { IfOk result (λ b. InstallsOrRests b self.old.store self.new.store) }
-        // Refused, no table's file is left of what it wrote, unless a call of the store failed, or a version may name it.
-        ensures refused { S.tells → RemovesRefused result self.old.core self.new.core (S.world self.old.store) (S.world self.new.store) }
-        // After an unknown outcome no call of the store is made.
+        ensures files { CompactsFiles result S.tells S.world (tree_of self.old) (tree_of self.new) }
         ensures no_call { is_unsure self.old ≡ true → self.new.store ≡ self.old.store }
     {
-        self.acts_are_known();
-        self.tree.is_upheld();
-        if self.doubted {
-            return Err(Error::Unrecoverable);
-        }
-        self.tree.major_compact(target, watermark)
+        unless_doubted!(self, major_compact(target, watermark))
     }
 
     /// `TreeState::drop_range`.
@@ -309,24 +212,10 @@ impl<S: Store> Logged<S> {
         // As the theory sees it: an installed drop of the tables within the bounds, or one of unknown outcome, else the mark
         // of its watermark.
         ensures acts { S.tells → CompactsBy (DropsWithin bounds self.old.core) 0 result (S.world self.old.store) (S.world self.new.store) self.old self.new }
-        // What a crash leaves, of the tree's files and of names that are none of its own.
         ensures upholds { S.tells → Upholds (S.world self.old.store) (S.world self.new.store) self.old.core self.new.core }
-        // The store is blamed only where a call of it failed.
-        ensures causes { HasCause (Blames result) (S.world self.old.store) (S.world self.new.store) }
-        // Behind a whole clean-up no file is left of what went.
-        ensures gone { S.tells → result ≡ Ok Begun.Installed → LeavesNoFiles (S.world self.new.store) self.old.core.history self.new.core.history }
-        // Where nothing is installed, and nothing refused, no call of the store is made.
-        ensures rests { IfOk result (λ b. InstallsOrRests b self.old.store self.new.store) }
-        // Refused, no table's file is left of what it wrote, unless a call of the store failed, or a version may name it.
-        ensures refused { S.tells → RemovesRefused result self.old.core self.new.core (S.world self.old.store) (S.world self.new.store) }
-        // After an unknown outcome no call of the store is made.
+        ensures files { CompactsFiles result S.tells S.world (tree_of self.old) (tree_of self.new) }
         ensures no_call { is_unsure self.old ≡ true → self.new.store ≡ self.old.store }
     {
-        self.acts_are_known();
-        self.tree.is_upheld();
-        if self.doubted {
-            return Err(Error::Unrecoverable);
-        }
-        self.tree.drop_range(bounds)
+        unless_doubted!(self, drop_range(bounds))
     }
 }

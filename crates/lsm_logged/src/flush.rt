@@ -1,11 +1,10 @@
 // Flushes of a logged tree, and a clear.
-ghost use Rattle.std.specs.Prelude.{◌≡◌, ◌⊎◌, ◌<◌, ◌^◌, [], true, false, None, map, IfOk, IfErr, OnOk, IfSome, IsErrOf};
-ghost use Rattle.lsm_commit.specs.Causes.{HasCause, Blames};
-ghost use Rattle.lsm_state.specs.Causes.{BlamesOrUncleanFlush, BlamesOrUncleanBehind, BlamesOrUnclean, BlamesBeside};
-ghost use Rattle.lsm_state.specs.Cleaning.{LeavesNoVersions, RemovesDrawn, RemovesTables};
+ghost use Rattle.std.specs.Prelude.{◌≡◌, ◌⊎◌, ◌<◌, ◌^◌, [], true, false, None, IfOk, OnOk, IfSome};
+ghost use Rattle.lsm_commit.specs.Causes.{HasCause};
 ghost use Rattle.lsm_state.specs.Commits.{UpholdsFiles, Upholds};
-ghost use Rattle.lsm_state.specs.Flushes.{sealed_ids, spent, IsCurrent};
-ghost use Rattle.lsm_logged.specs.Keeping.{is_unsure};
+ghost use Rattle.lsm_state.specs.Flushes.{sealed_ids, spent};
+ghost use Rattle.lsm_state.specs.Files.{ClearsFiles, WritesFiles, RegistersFiles, FlushesFiles, FlushesActiveFiles};
+ghost use Rattle.lsm_logged.specs.Keeping.{is_unsure, tree_of};
 ghost use Rattle.lsm_logged.specs.Removing.{log_from_of, AreGone, KeepsKnown, KeepsRest, Passed};
 ghost use Rattle.lsm_logged.specs.Acting.{ActsNot, FlushesAct, FlushesBothAct, RegistersAct, ClearsAct};
 ghost use Rattle.lsm_logged.specs.Flushing.{FlushesLogged, FlushesBoth, BeginsLogged, WritesJobLogged, RegistersLogged, ClearsLogged, CleansLog, RemovesBehind};
@@ -14,7 +13,6 @@ use crate::Logged;
 use lsm_below::{Error, MemtableId, SeqNo, plain_numbers_are_read};
 use lsm_commit::crashes_leave_versions;
 use lsm_flush::{FlushJob, MergedFlush, Registered, WrittenFlush};
-use lsm_parts::LIMIT;
 use lsm_state::flushes_are_deeds;
 use lsm_store::Store;
 
@@ -76,15 +74,7 @@ impl<S: Store> Logged<S> {
         // As the theory sees it: a flush, or one of unknown outcome, else nothing.
         ensures acts { S.tells → FlushesAct watermark result (S.world self.old.store) (S.world self.new.store) self.old self.new }
         ensures upholds { S.tells → UpholdsFiles (S.world self.old.store) (S.world self.new.store) self.old.core self.new.core }
-        // The store is blamed only where a call of it failed.
-        ensures causes { HasCause (BlamesOrUncleanFlush result) (S.world self.old.store) (S.world self.new.store) }
-        // Behind a whole clean-up no file is left of what went.
-        ensures gone { S.tells → IfOk result (λ a. IfSome a (λ p. p.1.cleaned ≡ true → LeavesNoVersions (S.world self.new.store) self.old.core.history self.new.core.history)) }
-        // Where nothing is sealed no call of the store is made.
-        ensures rests { IfOk result (λ a. a ≡ None → self.new.store ≡ self.old.store) }
-        // Refused, no table's file is left of what it wrote, unless a call of the store failed, or the outcome of a commit is
-        // unknown.
-        ensures refused { S.tells → self.old.core.next_table < LIMIT → IfErr result (λ e. (e ≡ Error.CommitUnknown → ⊥) → RemovesDrawn self.old.core.next_table self.new.core.next_table (S.world self.old.store) (S.world self.new.store)) }
+        ensures files { FlushesFiles result S.tells S.world (tree_of self.old) (tree_of self.new) }
         // After an unknown outcome no call of the store is made.
         ensures no_call { is_unsure self.old ≡ true → self.new.store ≡ self.old.store }
     {
@@ -122,14 +112,7 @@ impl<S: Store> Logged<S> {
         // As the theory sees it: a rotation, and behind it a flush.
         ensures acts { S.tells → FlushesBothAct watermark result (S.world self.old.store) (S.world self.new.store) self.old self.new }
         ensures upholds { S.tells → UpholdsFiles (S.world self.old.store) (S.world self.new.store) self.old.core self.new.core }
-        ensures causes { HasCause (BlamesOrUncleanBehind result) (S.world self.old.store) (S.world self.new.store) }
-        // Behind a whole clean-up no file is left of what went.
-        ensures gone { S.tells → IfOk result (λ a. IfSome a.1 (λ p. p.1.cleaned ≡ true → LeavesNoVersions (S.world self.new.store) self.old.core.history self.new.core.history)) }
-        // Where nothing is flushed no call of the store is made.
-        ensures rests { IfOk result (λ a. a.1 ≡ None → self.new.store ≡ self.old.store) }
-        // Refused, no table's file is left of what it wrote, unless a call of the store failed, or the outcome of a commit is
-        // unknown.
-        ensures refused { S.tells → self.old.core.next_table < LIMIT → IfErr result (λ e. (e.0 ≡ Error.CommitUnknown → ⊥) → RemovesDrawn self.old.core.next_table self.new.core.next_table (S.world self.old.store) (S.world self.new.store)) }
+        ensures files { FlushesActiveFiles result S.tells S.world (tree_of self.old) (tree_of self.new) }
         // After an unknown outcome no call of the store is made.
         ensures no_call { is_unsure self.old ≡ true → self.new.store ≡ self.old.store }
     {
@@ -177,9 +160,7 @@ impl<S: Store> Logged<S> {
         // As the theory sees it nothing is done.
         ensures acts { S.tells → ActsNot (S.world self.old.store) (S.world self.new.store) self.old self.new }
         ensures upholds { S.tells → Upholds (S.world self.old.store) (S.world self.new.store) self.old.core self.new.core }
-        ensures causes { HasCause (BlamesBeside result) (S.world self.old.store) (S.world self.new.store) }
-        // Refused, no file is left, unless a call of the store failed.
-        ensures refused { S.tells → self.old.core.next_table < LIMIT → IfErr result (λ _. RemovesDrawn self.old.core.next_table self.new.core.next_table (S.world self.old.store) (S.world self.new.store)) }
+        ensures files { WritesFiles result S.tells S.world (tree_of self.old) (tree_of self.new) }
         // After an unknown outcome no call of the store is made.
         ensures no_call { is_unsure self.old ≡ true → self.new.store ≡ self.old.store }
     {
@@ -219,13 +200,7 @@ impl<S: Store> Logged<S> {
         // As the theory sees it: a flush, or one of unknown outcome, else nothing.
         ensures acts { S.tells → RegistersAct job result (S.world self.old.store) (S.world self.new.store) self.old self.new }
         ensures upholds { S.tells → UpholdsFiles (S.world self.old.store) (S.world self.new.store) self.old.core self.new.core }
-        ensures causes { HasCause (BlamesOrUnclean result) (S.world self.old.store) (S.world self.new.store) }
-        // Behind a whole clean-up no file is left of what went.
-        ensures gone { S.tells → IfOk result (λ a. a.installed ≡ true → a.cleaned ≡ true → LeavesNoVersions (S.world self.new.store) self.old.core.history self.new.core.history) }
-        // Where the job is stale, no call of the store is made.
-        ensures rests { IfOk result (λ a. a.installed ≡ false → self.new.store ≡ self.old.store) }
-        // Refused so while it is current, no file is left of its tables, unless a call of the store failed.
-        ensures refused { S.tells → IsCurrent job self.old.core → IsErrOf result Error.OutOfNumbers ⊎ IsErrOf result Error.TooManyRuns → RemovesTables (map (λ t. t.id) job.tables) (S.world self.old.store) (S.world self.new.store) }
+        ensures files { RegistersFiles job result S.tells S.world (tree_of self.old) (tree_of self.new) }
         // After an unknown outcome no call of the store is made.
         ensures no_call { is_unsure self.old ≡ true → self.new.store ≡ self.old.store }
     {
@@ -263,7 +238,9 @@ impl<S: Store> Logged<S> {
         // As the theory sees it: a clear, or one of unknown outcome, else nothing.
         ensures acts { S.tells → ClearsAct result (S.world self.old.store) (S.world self.new.store) self.old self.new }
         ensures upholds { S.tells → UpholdsFiles (S.world self.old.store) (S.world self.new.store) self.old.core self.new.core }
-        ensures causes { HasCause (Blames result) (S.world self.old.store) (S.world self.new.store) }
+        ensures files { ClearsFiles result S.tells S.world (tree_of self.old) (tree_of self.new) }
+        // After an unknown outcome no call of the store is made.
+        ensures no_call { is_unsure self.old ≡ true → self.new.store ≡ self.old.store }
     {
         plain_numbers_are_read();
         self.counter_fits();

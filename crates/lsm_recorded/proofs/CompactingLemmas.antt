@@ -1,5 +1,5 @@
 -- What calls keep of a tree with its journal that tell what they do, those of a compaction among them.
-use Rattle.std.proofs.Common.{◌≡◌, ◌⊎◌, ⊎_elim, ℕ, ◌++◌, List, [], Result, Ok, Err, IfOk, fold, refl, sym, subst, append-nil}
+use Rattle.std.proofs.Common.{◌≡◌, ℕ, ◌++◌, List, [], Result, fold, refl, sym, subst, append-nil}
 use Rattle.std.specs.BTreeMap.{BTreeMap}
 use Rattle.lsm_below.specs.Keys.{Bytes}
 use Rattle.lsm_below.specs.declared.error.Error.{Error}
@@ -7,26 +7,19 @@ use Rattle.lsm_model.specs.Soundness.{Soundness}
 use Rattle.lsm_model.specs.Journal.{Event, floor_after}
 use Rattle.lsm_model.specs.Steps.{StaysAt}
 use Rattle.lsm_model.specs.Views.{Placed}
-use Rattle.lsm_model.specs.declared.journal.JournalEntry.{JournalEntry}
-use Rattle.lsm_store.specs.World.{World}
 use Rattle.lsm_compaction.specs.Merges.{SeenCompaction}
 use Rattle.lsm_pick.specs.declared.choice.Choice.{Choice}
-use Rattle.lsm_pick.specs.declared.choice.ChooseError.{ChooseError}
 use Rattle.lsm_state.specs.declared.compaction.Options.{Options}
 use Rattle.lsm_state.specs.declared.compaction.Begun.{Begun}
-use Rattle.lsm_state.specs.declared.compaction.Begun.TheVariants.{Installed}
 use Rattle.lsm_state.specs.declared.compaction.Finished.{Finished}
 use Rattle.lsm_state.specs.Core.{Core, state_of}
 use Rattle.lsm_state.specs.Deeds.{IsNoDeed}
-use Rattle.lsm_state.specs.Cleaning.{LeavesNoFiles}
-use Rattle.lsm_state.specs.Compactions.{Relation, Spends}
+use Rattle.lsm_state.specs.Compactions.{Spends}
 use Rattle.lsm_state.specs.CompactionReads.{SparesReads, IsAny, IsAnySnapshot, AreSparedBy}
-use Rattle.lsm_journal.specs.Noted.{IsAnswerOf, BeginsAnswer, EndsNoted, CompactsAnswer}
+use Rattle.lsm_journal.specs.Noted.{BeginsAnswer, EndsNoted, CompactsAnswer}
 use Rattle.lsm_journal.specs.NotedReads.{IsMarkedFor, NotedCompactionsKeepReads}
 use Rattle.lsm_recorded.specs.declared.marks.Mark.{Mark}
-use Rattle.lsm_recorded.specs.Flushing.{RefusesUnnoted}
-use Rattle.lsm_recorded.specs.Compacting.{NotesWhatIsDone}
-use Rattle.lsm_recorded.specs.Recorded.{SeenRecorded, IsRecorded, Stays, StaysBehind}
+use Rattle.lsm_recorded.specs.Recorded.{IsRecorded, Stays, StaysBehind}
 use Rattle.lsm_recorded.proofs.Watermarks.{open_marked}
 use Rattle.lsm_recorded.proofs.Telling.{told_floor, told_recorded, stays_told}
 use Rattle.lsm_recorded.proofs.GoingOn.{GoesOn, begins_go, ends_go, spends_go, compacts_go}

@@ -100,3 +100,18 @@ pub(crate) fn put_entries(
     shared.truncate(entries.len());
     put_all(journal, pass, shared, copies.pass);
 }
+
+/// `put_entries`, to the call history of a tree and to a pass.
+macro_rules! put {
+    ($tree:expr, $pass:expr, $entries:expr, $copies:expr) => {
+        put_entries(
+            &mut $tree.journal,
+            &mut $pass.entries,
+            &mut $tree.floor,
+            $entries,
+            $copies,
+        )
+    };
+}
+
+pub(crate) use put;

@@ -1,12 +1,12 @@
 -- Which calls of the store failed where a call of a tree tells a fault.
-use Rattle.std.proofs.Common.{ℕ, ◌-◌, ◌≤◌, ◌^◌, min, arith, ◌≡◌, ◌∙◌, ◌⊎◌, inl, inr, ⊎_elim, Bool, false, List, Result, Ok, Err, IfErr, OnOk, ap, subst}
+use Rattle.std.proofs.Common.{ℕ, ◌-◌, ◌≤◌, ◌<◌, ◌^◌, min, arith, ◌≡◌, ◌∙◌, ◌⊎◌, inl, inr, ⊎_elim, Bool, false, List, Result, Ok, Err, IfErr, OnOk, sym, ap, subst}
 use Rattle.std.specs.Prelude.{is_ok}
 use Rattle.lsm_below.specs.declared.error.Error.{Error}
 use Rattle.lsm_below.specs.declared.error.Error.TheVariants.{OutOfMemory, Store, OutOfNumbers, AfterCommit, Unrecoverable}
 use Rattle.lsm_store.specs.World.{World}
 use Rattle.lsm_state.specs.declared.compaction.Begun.{Begun}
 use Rattle.lsm_state.specs.declared.compaction.Begun.TheVariants.{DidNothing, Declined, Installed, Job}
-use Rattle.lsm_state.specs.Core.{Core}
+use Rattle.lsm_state.specs.Core.{Core, Seen}
 use Rattle.lsm_state.specs.Causes.{BlamesEnd}
 use Rattle.lsm_state.specs.WholeCompactions.{Follows}
 use Rattle.lsm_commit.specs.Stored.{CountsFaults}
@@ -50,6 +50,13 @@ no_way told = ⊎_elim (λ h. cc h) (λ later. ⊎_elim (λ h. cc h) (λ h. cc h
 
 pub removes_then : (first next : ℕ) (old mid new : World) → min old.failures (2 ^ 64 - 1) ≤ mid.failures → RemovesDrawn first next mid new → RemovesDrawn first next old new
 removes_then first next old mid new rises removes = ⊎_elim (λ gone. inl gone) (λ (failed : HasFailed mid new). let more : HasFailed old new = omega (arith, rises, failed) in inr more) removes
+
+-- where it drew ids from the first on, and those are removed behind it
+pub removes_drawn : {S : Type 0} (world : S → World) (first : ℕ) (old mid new : Seen S) → first ≡ old.core.next_table → new.core ≡ mid.core → min (world old.store).failures (2 ^ 64 - 1) ≤ (world mid.store).failures → (first < 2 ^ 63 → RemovesDrawn first mid.core.next_table (world mid.store) (world new.store))
+    → old.core.next_table < 2 ^ 63 → RemovesDrawn old.core.next_table new.core.next_table (world old.store) (world new.store)
+removes_drawn world first old mid new is same rises removes small =
+    let from = subst (λ n. n < 2 ^ 63 → RemovesDrawn n mid.core.next_table (world mid.store) (world new.store)) is removes small in
+    removes_then old.core.next_table new.core.next_table (world old.store) (world mid.store) (world new.store) rises (subst (λ n. RemovesDrawn old.core.next_table n (world mid.store) (world new.store)) (sym (ap (λ k. k.next_table) same)) from)
 
 pub removes_tables : (ids : List ℕ) (old new : World) (r : Result (Unit {0}) Error) → OnOk r (AreAbsent new ids) → IfErr r (λ e. e ≡ AfterCommit) → HasCause (Blames r) old new → RemovesTables ids old new
 removes_tables ids old new (Ok x) gone only causes = inl gone

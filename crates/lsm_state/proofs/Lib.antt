@@ -31,6 +31,7 @@ pub mod Outcomes
 pub mod CompactionReads
 pub mod OwnInputs
 pub mod Wholes
+pub mod Files
 pub mod Clears
 pub mod ClearReads
 pub mod Raising

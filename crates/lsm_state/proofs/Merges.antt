@@ -172,13 +172,10 @@ pub spent_upholds : (w : World) (old new : Core) (n : ℕ) (found : Bool) → (f
 spent_upholds w old new n true closes other up = subst (Upholds w w old) (sym (closes refl)) (record { files = up.files; passes = up.passes })
 spent_upholds w old new n false closes other up = subst (Upholds w w old) (sym (other refl)) up
 
-pub spent_table : (old new : Core) (n : ℕ) (found : Bool) → (found ≡ true → new ≡ closed n old) → (found ≡ false → new ≡ old) → new.next_table ≡ old.next_table
-spent_table old new n true closes other = ap (λ c. c.next_table) (closes refl)
-spent_table old new n false closes other = ap (λ c. c.next_table) (other refl)
-
-pub spent_levels : (old new : Core) (n : ℕ) (found : Bool) → (found ≡ true → new ≡ closed n old) → (found ≡ false → new ≡ old) → levels_of new ≡ levels_of old
-spent_levels old new n true closes other = ap levels_of (closes refl)
-spent_levels old new n false closes other = ap levels_of (other refl)
+-- which keeps what a close keeps
+pub spent_stays : {A : Type 0} (of : Core → A) (old new : Core) (n : ℕ) (found : Bool) → of (closed n old) ≡ of old → (found ≡ true → new ≡ closed n old) → (found ≡ false → new ≡ old) → of new ≡ of old
+spent_stays of old new n true stays closes other = ap of (closes refl) ∙ stays
+spent_stays of old new n false stays closes other = ap of (other refl)
 
 -- the counter has no number
 pub unnumbered : {T : Type 0} (job : SeenCompaction) (old : Core) → DrawsFor job old.next_table old.next_table → 2 ^ 63 ≤ old.seqno → InstallsMerge {T = T} job (Err OutOfNumbers) old old

@@ -23,7 +23,7 @@ use Rattle.lsm_state.proofs.Installing.{upholds_join}
 use Rattle.lsm_state.proofs.WholeFlushes.{upholds_behind}
 
 -- a job changes nothing but the open merges
-abbrev OnlyMerges : Core → Core → Type 0
+abbrev pub OnlyMerges : Core → Core → Type 0
 OnlyMerges old mid = mid ≡ (let c : Core = record old { merges = mid.merges } in c)
 
 opened_stays : (choice : Choice) (o : Options) (job : SeenCompaction) (old mid : Core) → Does choice o (Ok (Job job)) old mid → OnlyMerges old mid
@@ -32,7 +32,7 @@ opened_stays (Move input) o job old mid does = absurd (cc does.ok)
 opened_stays (Merge input) o job old mid does = does.ok ∙ ap (λ m. let c : Core = record old { merges = m } in c) (sym (ap (λ c. c.merges) does.ok))
 opened_stays (Drop ids) o job old mid does = absurd (cc does.ok)
 
-job_stays : (choice : Choice) (o : Options) (job : SeenCompaction) (old mid : Core) → BeginsChoice choice o (Ok (Job job)) old mid → OnlyMerges old mid
+pub job_stays : (choice : Choice) (o : Options) (job : SeenCompaction) (old mid : Core) → BeginsChoice choice o (Ok (Job job)) old mid → OnlyMerges old mid
 job_stays choice o job old mid begins = by_lost old.lost refl
   where
     declined : (why : Why) → ◌≡◌ {A = Result Begun Error} (Ok (Job job)) (Ok (Declined why)) → ⊥
@@ -49,7 +49,7 @@ job_stays choice o job old mid begins = by_lost old.lost refl
     by_lost None certain = by_reason certain (reason_of choice old) refl
     by_lost (Some v) is = absurd (refused _ (begins.unrecoverable.1 (subst IsSome (sym is) refl)))
 
-begun_stays : (may_choose : Relation Choice) (may_refuse : Relation ChooseError) (o : Options) (job : SeenCompaction) (old mid : Core) → BeginsCompaction may_choose may_refuse o (Ok (Job job)) old mid → OnlyMerges old mid
+pub begun_stays : (may_choose : Relation Choice) (may_refuse : Relation ChooseError) (o : Options) (job : SeenCompaction) (old mid : Core) → BeginsCompaction may_choose may_refuse o (Ok (Job job)) old mid → OnlyMerges old mid
 begun_stays may_choose may_refuse o job old mid begins = by_lost old.lost refl
   where
     refused : (e : Error) → ◌≡◌ {A = Result Begun Error} (Ok (Job job)) (Err e) → ⊥
@@ -84,7 +84,7 @@ not_done : (r q : Result Begun Error) → r ≡ q → r ≡ Ok Installed → q �
 not_done r q is done = sym is ∙ done
 
 -- what is left behind a compaction that is installed
-follows_leave : (v u : World) (begun r : Result Begun Error) (old mid new : Core) → ((job : SeenCompaction) → begun ≡ Ok (Job job) → OnlyMerges old mid) → Follows begun r mid new → (begun ≡ Ok Installed → LeavesNoFiles v old.history mid.history)
+pub follows_leave : (v u : World) (begun r : Result Begun Error) (old mid new : Core) → ((job : SeenCompaction) → begun ≡ Ok (Job job) → OnlyMerges old mid) → Follows begun r mid new → (begun ≡ Ok Installed → LeavesNoFiles v old.history mid.history)
     → ((job : SeenCompaction) → begun ≡ Ok (Job job) → r ≡ Ok Installed → LeavesNoFiles u mid.history new.history) → (begun ≡ Ok Installed → u ≡ v) → r ≡ Ok Installed → LeavesNoFiles u old.history new.history
 follows_leave v u (Ok DidNothing) r old mid new stays follows first second rests done = let q = not_done r (Ok DidNothing) follows.0 done in absurd (cc q)
 follows_leave v u (Ok (Declined why)) r old mid new stays follows first second rests done = let q = not_done r (Ok (Declined why)) follows.0 done in absurd (cc q)
@@ -92,14 +92,6 @@ follows_leave v u (Ok Installed) r old mid new stays follows first second rests 
     subst (λ (z : World). LeavesNoFiles z old.history new.history) (sym (rests refl)) (subst (λ (c : Core). LeavesNoFiles v old.history c.history) (sym follows.1) (first refl))
 follows_leave v u (Ok (Job job)) r old mid new stays follows first second rests done = subst (λ h. LeavesNoFiles u h new.history) (ap (λ c. c.history) (stays job refl)) (second job refl done)
 follows_leave v u (Err e) r old mid new stays follows first second rests done = let q = not_done r (Err e) follows.0 done in absurd (cc q)
-
-pub choice_leaves : (v u : World) (choice : Choice) (o : Options) (begun r : Result Begun Error) (old mid new : Core) → BeginsChoice choice o begun old mid → Follows begun r mid new → (begun ≡ Ok Installed → LeavesNoFiles v old.history mid.history)
-    → ((job : SeenCompaction) → begun ≡ Ok (Job job) → r ≡ Ok Installed → LeavesNoFiles u mid.history new.history) → (begun ≡ Ok Installed → u ≡ v) → r ≡ Ok Installed → LeavesNoFiles u old.history new.history
-choice_leaves v u choice o begun r old mid new begins = follows_leave v u begun r old mid new (λ job is. job_stays choice o job old mid (subst (λ b. BeginsChoice choice o b old mid) is begins))
-
-pub whole_leaves : (v u : World) (may_choose : Relation Choice) (may_refuse : Relation ChooseError) (o : Options) (begun r : Result Begun Error) (old mid new : Core) → BeginsCompaction may_choose may_refuse o begun old mid → Follows begun r mid new → (begun ≡ Ok Installed → LeavesNoFiles v old.history mid.history)
-    → ((job : SeenCompaction) → begun ≡ Ok (Job job) → r ≡ Ok Installed → LeavesNoFiles u mid.history new.history) → (begun ≡ Ok Installed → u ≡ v) → r ≡ Ok Installed → LeavesNoFiles u old.history new.history
-whole_leaves v u may_choose may_refuse o begun r old mid new begins = follows_leave v u begun r old mid new (λ job is. begun_stays may_choose may_refuse o job old mid (subst (λ b. BeginsCompaction may_choose may_refuse o b old mid) is begins))
 
 -- ---- refused, what is left of the files that were written
 

@@ -22,6 +22,7 @@ pub mod Compactions
 pub mod CompactionDeeds
 pub mod OwnInputs
 pub mod WholeCompactions
+pub mod Files
 pub mod CompactionReads
 pub mod Clearing
 pub mod Recording

@@ -123,6 +123,11 @@ pub record FlushesActive (w : ℕ) (r : Result (Option ℕ × Option (ℕ × Reg
   pub ok : IfOk r (λ a. FlushesBehind w a.0 a.1 old new)
   pub err : IfErr r (λ e. RefusesRotation e.1 e.0 old new ⊎ RefusesBehind w e.1 e.0 old new)
 
+-- what it answers: the memtable that was sealed, beside the answer of the flush or its refusal
+abbrev pub answer_behind : Option ℕ → Result (Option (ℕ × Registered)) Error → Result (Option ℕ × Option (ℕ × Registered)) (Error × Option ℕ)
+answer_behind id (Ok a) = Ok (id, a)
+answer_behind id (Err e) = Err (e, id)
+
 -- ---- its part in the middle
 
 -- what merging a job and writing its tables answers and does; refused, the job is given up

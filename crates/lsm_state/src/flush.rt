@@ -1,15 +1,13 @@
 // The calls of a flush, up to its tables.
-ghost use Rattle.std.specs.Prelude.{◌≡◌, ◌⊎◌, ◌+◌, ◌≤◌, ◌<◌, ◌++◌, None, length, reverse, IsSome, IfOk, IfErr, IsErrOf};
+ghost use Rattle.std.specs.Prelude.{◌≡◌, ◌⊎◌, ◌+◌, ◌≤◌, ◌++◌, None, length, reverse, IfOk, IfErr, IsErrOf};
 ghost use Rattle.lsm_tables.specs.Cutting.{IsWritable};
 ghost use Rattle.lsm_versions.specs.Levels.{all_of, HasOwnIds};
 ghost use Rattle.lsm_commit.specs.Stored.{AreOnDisk, CountsFaults};
 ghost use Rattle.lsm_commit.specs.Writing.{HoldEntries};
-ghost use Rattle.lsm_commit.specs.Causes.{HasCause};
-ghost use Rattle.lsm_state.specs.Causes.{BlamesBeside};
-ghost use Rattle.lsm_state.specs.Cleaning.{RemovesDrawn};
 ghost use Rattle.lsm_state.specs.Commits.{Upholds};
 ghost use Rattle.lsm_state.specs.Deeds.{IsNoDeed};
 ghost use Rattle.lsm_state.specs.Flushes.{Begins, WritesTables, with_next_table, noted_in, spent, spent_in};
+ghost use Rattle.lsm_state.specs.Files.{WritesFiles};
 
 use crate::TreeState;
 use lsm_below::MemtableId;
@@ -156,13 +154,9 @@ impl<S: Store> TreeState<S> {
         job: MergedFlush,
     ) -> Result<WrittenFlush, (Error, MergedFlush)>
         ensures writes { WritesTables job result self.old.core self.new.core }
-        // What a crash leaves.
+        // What a crash leaves, and what the call does to files.
         ensures upholds { S.tells → Upholds (S.world self.old.store) (S.world self.new.store) self.old.core self.new.core }
-        // Refused, no file is left, unless a call of the store failed.
-        ensures refused { S.tells → self.old.core.next_table < LIMIT → IfErr result (λ _. RemovesDrawn self.old.core.next_table self.new.core.next_table (S.world self.old.store) (S.world self.new.store)) }
-        // The store is blamed only where a call of it failed.
-        ensures causes { HasCause (BlamesBeside result) (S.world self.old.store) (S.world self.new.store) }
-        ensures no_call { IsSome self.old.core.lost → self.new.store ≡ self.old.store }
+        ensures files { WritesFiles result S.tells S.world self.old self.new }
         // To the theories nothing is done.
         ensures deeds { IsNoDeed self.old.core self.new.core }
     {

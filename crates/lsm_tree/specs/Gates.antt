@@ -15,7 +15,7 @@ use Rattle.lsm_state.specs.WholeCompactions.{options_at, told_end}
 use Rattle.lsm_recorded.specs.Flushing.{SpendsUnnoted}
 use Rattle.lsm_recorded.specs.Compacting.{BeginsRecorded, FinishesRecorded}
 use Rattle.lsm_logged.specs.Asking.{Asks}
-use Rattle.lsm_tree.specs.Files.{BeginsFiles, FinishesFiles}
+use Rattle.lsm_state.specs.Files.{BeginsFiles, FinishesFiles}
 use Rattle.lsm_tree.specs.Shared.{OnSomeTreeFiles, OnSomeTreeAlone, OnSomeRecordedFiles, OnSomeLogged, OnSomeLoggedFiles, TouchesTreeAlone}
 
 -- it is never a job

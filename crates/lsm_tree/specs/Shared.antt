@@ -17,13 +17,13 @@ use Rattle.lsm_parts.specs.Held.{first_entries}
 use Rattle.lsm_state.specs.Kept.{IsKeptTree}
 use Rattle.lsm_state.specs.Commits.{UpholdsFiles}
 use Rattle.lsm_state.specs.Recording.{RecordsBatch}
-use Rattle.lsm_logged.specs.Keeping.{SeenLogged, IsKeptLogged, is_unsure, AreKnown}
+use Rattle.lsm_logged.specs.Keeping.{SeenLogged, IsKeptLogged, is_unsure, tree_of, AreKnown}
 use Rattle.lsm_logged.specs.Writing.{WritesLogged}
 use Rattle.lsm_logged.specs.Removing.{log_from_of, KeepsKnown, Passed}
 use Rattle.lsm_logged.specs.Flushing.{RemovesBehind}
 use Rattle.lsm_recorded.specs.Passes.{Notes}
 use Rattle.lsm_recorded.specs.Recorded.{SeenRecorded, IsKeptRecorded}
-use Rattle.lsm_tree.specs.Files.{KeepsFiles}
+use Rattle.lsm_state.specs.Files.{KeepsFiles}
 
 -- what a call does to the files of a tree, by what tells of them
 abbrev pub OnFiles : Type 0 → Type 1
@@ -71,10 +71,6 @@ AtSomeRecorded S P = (t : SeenRecorded S) × P t × IsKeptRecorded t
 -- a call that took some tree with a log above it to another; of both holds what holds of every one
 abbrev pub OnSomeLogged : (S : Type 0) → (SeenLogged S → SeenLogged S → Type 0) → Type 0
 OnSomeLogged S P = (old : SeenLogged S) × (new : SeenLogged S) × P old new × IsKeptLogged old × IsKeptLogged new
-
--- the tree below its log
-abbrev pub tree_of : {S : Type 0} → SeenLogged S → Seen S
-tree_of t = record { store = t.store; core = t.core }
 
 -- and did this to its files
 abbrev pub OnSomeLoggedFiles : {S : Type 0} → Type 0 → (S → World) → OnFiles S → (SeenLogged S → SeenLogged S → Type 0) → Type 0

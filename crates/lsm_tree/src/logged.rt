@@ -8,7 +8,7 @@ ghost use Rattle.lsm_state.specs.Flushes.{with_next_table};
 ghost use Rattle.lsm_state.specs.Calls.{Rotates};
 ghost use Rattle.lsm_logged.specs.Keeping.{is_unsure};
 ghost use Rattle.lsm_logged.specs.Flushing.{ClearsLogged};
-ghost use Rattle.lsm_tree.specs.Files.{ClearsFiles};
+ghost use Rattle.lsm_state.specs.Files.{ClearsFiles};
 ghost use Rattle.lsm_tree.specs.Shared.{OnSomeLogged, AtSomeTree, AtSomeLogged, TouchesTreeAlone, RefusesSharedRotation, WritesRecorded, OnSomeLoggedRemoving};
 
 use crate::handle::Handle;

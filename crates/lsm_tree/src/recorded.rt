@@ -17,7 +17,7 @@ ghost use Rattle.lsm_state.specs.Listing.{Lists, ListsPrefix};
 ghost use Rattle.lsm_recorded.specs.Recorded.{OwnOr};
 ghost use Rattle.lsm_recorded.specs.Flushing.{RefusesUnnoted};
 ghost use Rattle.lsm_recorded.specs.Clearing.{ClearsNoted};
-ghost use Rattle.lsm_tree.specs.Files.{ClearsFiles};
+ghost use Rattle.lsm_state.specs.Files.{ClearsFiles};
 ghost use Rattle.lsm_tree.specs.Shared.{OnSomeTreeAlone, OnSomeRecorded, AtSomeTree, AtSomeRecorded, RefusesRecordedRead, RefusesSharedRotation, ReadsNoted, WritesNoted, OnSomeRecordedFiles};
 
 use crate::handle::Handle;

@@ -6,7 +6,7 @@ ghost use Rattle.lsm_model.specs.declared.op.Op.TheVariants.{Set, Del, Weak};
 ghost use Rattle.lsm_state.specs.Flushes.{with_next_table};
 ghost use Rattle.lsm_state.specs.Calls.{Appends, WritesBatch, Rotates};
 ghost use Rattle.lsm_state.specs.Clearing.{Clears, ForgetsUnflushed};
-ghost use Rattle.lsm_tree.specs.Files.{ClearsFiles};
+ghost use Rattle.lsm_state.specs.Files.{ClearsFiles};
 ghost use Rattle.lsm_tree.specs.Shared.{OnSomeTreeAlone, AtSomeTree, RefusesSharedRotation, OnSomeTreeFiles};
 
 use crate::handle::Handle;

@@ -1,12 +1,11 @@
 // How a choice begins, and what is noted of that.
-ghost use Rattle.std.specs.Prelude.{◌≡◌, ℕ, IsSome, IfOk, Ok, length, take};
+ghost use Rattle.std.specs.Prelude.{◌≡◌, ℕ, IsSome, Ok, length, take};
 ghost use Rattle.lsm_pick.specs.declared.choice.Choice.{Choice as ChoiceOf};
-ghost use Rattle.lsm_commit.specs.Causes.{HasCause, Blames};
-ghost use Rattle.lsm_state.specs.Cleaning.{LeavesNoFiles};
+ghost use Rattle.lsm_commit.specs.Causes.{Blames};
 ghost use Rattle.lsm_state.specs.Commits.{Upholds};
-ghost use Rattle.lsm_state.specs.Compactions.{InstallsOrRests};
 ghost use Rattle.lsm_state.specs.Core.{Core};
 ghost use Rattle.lsm_state.specs.CompactionReads.{TellsChoice};
+ghost use Rattle.lsm_state.specs.Files.{BeginsFiles};
 ghost use Rattle.lsm_journal.specs.Noted.{noted_of, kept_of, BeginsAnswer};
 
 use crate::Chosen;
@@ -55,14 +54,9 @@ pub fn begin_chosen<S: Store>(
     ensures begins { BeginsAnswer chosen.answer options result.0 result.1.items tree.old.core tree.new.core }
     // Copies that were made before can be cut to what is noted.
     ensures front { result.1.items ≡ take (length result.1.items) chosen.entries.items }
-    // What a crash leaves.
+    // What a crash leaves, and what the call does to files.
     ensures upholds { S.tells → Upholds (S.world tree.old.store) (S.world tree.new.store) tree.old.core tree.new.core }
-    // The store is blamed only where a call of it failed, or where the choice does so already.
-    ensures causes { (Blames chosen.answer → ⊥) → HasCause (Blames result.0) (S.world tree.old.store) (S.world tree.new.store) }
-    // Behind a whole clean-up no file is left of what went.
-    ensures gone { S.tells → result.0 ≡ Ok Begun.Installed → LeavesNoFiles (S.world tree.new.store) tree.old.core.history tree.new.core.history }
-    // Where nothing is installed, and nothing refused, no call of the store is made.
-    ensures rests { IfOk result.0 (λ b. InstallsOrRests b tree.old.store tree.new.store) }
+    ensures files { (Blames chosen.answer → ⊥) → BeginsFiles result.0 S.tells S.world tree.old tree.new }
     ensures no_call { IsSome tree.old.core.lost → tree.new.store ≡ tree.old.store }
 {
     tree.is_upheld();

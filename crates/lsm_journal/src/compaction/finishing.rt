@@ -1,12 +1,10 @@
 // How a merge ends, and what is noted of that.
-ghost use Rattle.std.specs.Prelude.{◌≡◌, ◌∷◌, [], Ok, IfOk, IsSome, length, take};
+ghost use Rattle.std.specs.Prelude.{◌≡◌, ◌∷◌, [], Ok, IfOk, length, take};
 ghost use Rattle.lsm_model.specs.declared.journal.JournalEntry.TheVariants.{Install};
-ghost use Rattle.lsm_commit.specs.Causes.{HasCause, Blames};
-ghost use Rattle.lsm_state.specs.Cleaning.{LeavesNoFiles, RemovesRefused};
 ghost use Rattle.lsm_state.specs.Commits.{Upholds};
-ghost use Rattle.lsm_state.specs.Compactions.{EndsOrRests};
 ghost use Rattle.lsm_state.specs.Core.{Core};
 ghost use Rattle.lsm_state.specs.CompactionReads.{TellsMerge};
+ghost use Rattle.lsm_state.specs.Files.{FinishesFiles};
 ghost use Rattle.lsm_journal.specs.Noted.{EndsNoted};
 
 use crate::lists::one_entry;
@@ -49,17 +47,9 @@ pub fn finish_noting<S: Store>(
     ensures ends { EndsNoted merged.job result.0 result.1.items tree.old.core tree.new.core }
     // Copies that were made before can be cut to what is noted.
     ensures front { result.1.items ≡ take (length result.1.items) entries.items }
-    // What a crash leaves.
+    // What a crash leaves, and what the call does to files.
     ensures upholds { S.tells → Upholds (S.world tree.old.store) (S.world tree.new.store) tree.old.core tree.new.core }
-    // The store is blamed only where a call of it failed.
-    ensures causes { HasCause (Blames result.0) (S.world tree.old.store) (S.world tree.new.store) }
-    // Behind a whole clean-up no file is left of what went.
-    ensures gone { S.tells → result.0 ≡ Ok Finished.Installed → LeavesNoFiles (S.world tree.new.store) tree.old.core.history tree.new.core.history }
-    // Where nothing is installed, and nothing refused, no call of the store is made.
-    ensures rests { IfOk result.0 (λ f. EndsOrRests f tree.old.store tree.new.store) }
-    // Refused, no table's file is left of what it wrote, unless a call of the store failed, or a version may name it.
-    ensures refused { S.tells → RemovesRefused result.0 tree.old.core tree.new.core (S.world tree.old.store) (S.world tree.new.store) }
-    ensures no_call { IsSome tree.old.core.lost → tree.new.store ≡ tree.old.store }
+    ensures files { FinishesFiles result.0 S.tells S.world tree.old tree.new }
 {
     let finished = tree.finish_compaction(merged);
     let entries = told(entries, &finished);

@@ -1,9 +1,8 @@
 // A compaction in one call, and what is noted of it.
-ghost use Rattle.std.specs.Prelude.{◌≡◌, IsSome, IfOk, Ok, length, take};
-ghost use Rattle.lsm_commit.specs.Causes.{HasCause, Blames};
-ghost use Rattle.lsm_state.specs.Cleaning.{LeavesNoFiles, RemovesRefused};
+ghost use Rattle.std.specs.Prelude.{◌≡◌, IsSome, Ok, length, take};
+ghost use Rattle.lsm_commit.specs.Causes.{Blames};
 ghost use Rattle.lsm_state.specs.Commits.{Upholds};
-ghost use Rattle.lsm_state.specs.Compactions.{InstallsOrRests};
+ghost use Rattle.lsm_state.specs.Files.{CompactsFiles};
 ghost use Rattle.lsm_journal.specs.Noted.{noted_of, CompactsAnswer};
 
 use crate::Chosen;
@@ -29,16 +28,9 @@ pub fn compact_chosen<S: Store>(
     ensures compacts { CompactsAnswer chosen.answer options result.0 result.1.items tree.old.core tree.new.core }
     // Copies that were made before can be cut to what is noted.
     ensures front { result.1.items ≡ take (length result.1.items) chosen.entries.items }
-    // What a crash leaves.
+    // What a crash leaves, and what the call does to files.
     ensures upholds { S.tells → Upholds (S.world tree.old.store) (S.world tree.new.store) tree.old.core tree.new.core }
-    // The store is blamed only where a call of it failed, or where the choice does so already.
-    ensures causes { (Blames chosen.answer → ⊥) → HasCause (Blames result.0) (S.world tree.old.store) (S.world tree.new.store) }
-    // Behind a whole clean-up no file is left of what went.
-    ensures gone { S.tells → result.0 ≡ Ok Begun.Installed → LeavesNoFiles (S.world tree.new.store) tree.old.core.history tree.new.core.history }
-    // Where nothing is installed, and nothing refused, no call of the store is made.
-    ensures rests { IfOk result.0 (λ b. InstallsOrRests b tree.old.store tree.new.store) }
-    // Refused, no table's file is left of what it wrote, unless a call of the store failed, or a version may name it.
-    ensures refused { S.tells → RemovesRefused result.0 tree.old.core tree.new.core (S.world tree.old.store) (S.world tree.new.store) }
+    ensures files { (Blames chosen.answer → ⊥) → CompactsFiles result.0 S.tells S.world tree.old tree.new }
     ensures no_call { IsSome tree.old.core.lost → tree.new.store ≡ tree.old.store }
 {
     tree.is_upheld();

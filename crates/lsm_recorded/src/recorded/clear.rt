@@ -1,11 +1,11 @@
 // A clear, and what it adds to a journal.
-ghost use Rattle.std.specs.Prelude.{◌≡◌, ◌⊎◌, IsSome};
-ghost use Rattle.lsm_commit.specs.Causes.{HasCause, Blames};
+ghost use Rattle.std.specs.Prelude.{◌≡◌, ◌⊎◌};
 ghost use Rattle.lsm_state.specs.Commits.{Upholds};
+ghost use Rattle.lsm_state.specs.Files.{ClearsFiles};
 ghost use Rattle.lsm_recorded.specs.Flushing.{RefusesUnnoted};
 ghost use Rattle.lsm_recorded.specs.Clearing.{ClearsNoted};
 
-use crate::noting::{beside_copies, put_entries};
+use crate::noting::{beside_copies, put, put_entries};
 use crate::pass::Pass;
 use crate::recorded::Recorded;
 use lsm_below::SeqNo;
@@ -27,11 +27,9 @@ impl<S: Store> Recorded<S> {
     /// changes.
     pub fn clear(&mut self, pass: &mut Pass) -> Result<SeqNo, Error>
         ensures clears { RefusesUnnoted result self.old self.new pass.old pass.new ⊎ ClearsNoted result self.old self.new pass.old pass.new }
-        // What a crash leaves.
+        // What a crash leaves, and what the call does to files.
         ensures upholds { S.tells → Upholds (S.world self.old.tree.store) (S.world self.new.tree.store) self.old.tree.core self.new.tree.core }
-        // The store is blamed only where a call of it failed.
-        ensures causes { HasCause (Blames result) (S.world self.old.tree.store) (S.world self.new.tree.store) }
-        ensures no_call { IsSome self.old.tree.core.lost → self.new.tree.store ≡ self.old.tree.store }
+        ensures files { ClearsFiles result S.tells S.world self.old.tree self.new.tree }
         ensures views { StaysBehind self.old.journal self.new.journal self.old.tree.core self.new.tree.core }
         ensures opened { self.new.opened ≡ self.old.opened }
     {
@@ -44,13 +42,7 @@ impl<S: Store> Recorded<S> {
             return Err(Error::OutOfMemory);
         };
         let (cleared, entries) = clear_noting(&mut self.core, entries);
-        put_entries(
-            &mut self.journal,
-            &mut pass.entries,
-            &mut self.floor,
-            entries,
-            copies,
-        );
+        put!(self, pass, entries, copies);
         cleared
     }
 }

@@ -1,15 +1,15 @@
 // The calls of a compaction, and what they add to a journal.
-ghost use Rattle.std.specs.Prelude.{◌≡◌, ◌⊎◌, IsSome, Ok, IfOk};
-ghost use Rattle.lsm_commit.specs.Causes.{HasCause, Blames};
-ghost use Rattle.lsm_state.specs.Cleaning.{LeavesNoFiles, RemovesRefused};
+ghost use Rattle.std.specs.Prelude.{◌≡◌, ◌⊎◌, IsSome, Ok};
+ghost use Rattle.lsm_commit.specs.Causes.{Blames};
 ghost use Rattle.lsm_state.specs.Commits.{Upholds};
-ghost use Rattle.lsm_state.specs.Compactions.{Spends, InstallsOrRests, EndsOrRests};
-ghost use Rattle.lsm_state.specs.WholeCompactions.{options_at, only_memory, major_choice, drop_choice};
+ghost use Rattle.lsm_state.specs.Compactions.{Spends};
+ghost use Rattle.lsm_state.specs.WholeCompactions.{options_at, only_memory, major_choice};
+ghost use Rattle.lsm_state.specs.Files.{BeginsFiles, FinishesFiles, CompactsFiles};
 ghost use Rattle.lsm_journal.specs.Noted.{noted_of, BeginsAnswer, CompactsAnswer};
 ghost use Rattle.lsm_recorded.specs.Flushing.{SpendsUnnoted, RefusesUnnoted};
 ghost use Rattle.lsm_recorded.specs.Compacting.{NotesWhatIsDone, BeginsRecorded, FinishesRecorded, CompactsRecorded, DropsRecorded};
 
-use crate::noting::{beside_copies, make_copies, put_entries};
+use crate::noting::{beside_copies, make_copies, put, put_entries};
 use crate::pass::Pass;
 use crate::recorded::Recorded;
 use lsm_below::SeqNo;
@@ -40,9 +40,7 @@ impl<S: Store> Recorded<S> {
         requires { chosen.entries.items ≡ noted_of chosen.answer options.mvcc_gc_watermark self.old.tree.core }
         ensures begins { RefusesUnnoted result self.old self.new pass.old pass.new ⊎ NotesWhatIsDone (λ events. BeginsAnswer chosen.answer options result events self.old.tree.core self.new.tree.core) self.old self.new pass.old pass.new }
         ensures upholds { S.tells → Upholds (S.world self.old.tree.store) (S.world self.new.tree.store) self.old.tree.core self.new.tree.core }
-        ensures causes { (Blames chosen.answer → ⊥) → HasCause (Blames result) (S.world self.old.tree.store) (S.world self.new.tree.store) }
-        ensures gone { S.tells → result ≡ Ok Begun.Installed → LeavesNoFiles (S.world self.new.tree.store) self.old.tree.core.history self.new.tree.core.history }
-        ensures rests { IfOk result (λ b. InstallsOrRests b self.old.tree.store self.new.tree.store) }
+        ensures files { (Blames chosen.answer → ⊥) → BeginsFiles result S.tells S.world self.old.tree self.new.tree }
         ensures no_call { IsSome self.old.tree.core.lost → self.new.tree.store ≡ self.old.tree.store }
         ensures views { StaysBehind self.old.journal self.new.journal self.old.tree.core self.new.tree.core }
         ensures opened { self.new.opened ≡ self.old.opened }
@@ -56,13 +54,7 @@ impl<S: Store> Recorded<S> {
             return Err(Error::OutOfMemory);
         };
         let (begun, entries) = begin_chosen(&mut self.core, chosen, options);
-        put_entries(
-            &mut self.journal,
-            &mut pass.entries,
-            &mut self.floor,
-            entries,
-            copies,
-        );
+        put!(self, pass, entries, copies);
         begun
     }
 
@@ -81,15 +73,9 @@ impl<S: Store> Recorded<S> {
         options: Options,
     ) -> Result<Begun, Error>
         ensures begins { BeginsRecorded (may_choose strategy.now) (may_refuse strategy.now) options result self.old self.new pass.old pass.new }
-        // What a crash leaves.
+        // What a crash leaves, and what the call does to files.
         ensures upholds { S.tells → Upholds (S.world self.old.tree.store) (S.world self.new.tree.store) self.old.tree.core self.new.tree.core }
-        // The store is blamed only where a call of it failed.
-        ensures causes { HasCause (Blames result) (S.world self.old.tree.store) (S.world self.new.tree.store) }
-        // Behind a whole clean-up no file is left of what went.
-        ensures gone { S.tells → result ≡ Ok Begun.Installed → LeavesNoFiles (S.world self.new.tree.store) self.old.tree.core.history self.new.tree.core.history }
-        // Where nothing is installed, and nothing refused, no call of the store is made.
-        ensures rests { IfOk result (λ b. InstallsOrRests b self.old.tree.store self.new.tree.store) }
-        ensures no_call { IsSome self.old.tree.core.lost → self.new.tree.store ≡ self.old.tree.store }
+        ensures files { BeginsFiles result S.tells S.world self.old.tree self.new.tree }
         ensures views { StaysBehind self.old.journal self.new.journal self.old.tree.core self.new.tree.core }
         ensures opened { self.new.opened ≡ self.old.opened }
     {
@@ -114,17 +100,9 @@ impl<S: Store> Recorded<S> {
         merged: MergedCompaction,
     ) -> Result<Finished, Error>
         ensures finishes { SpendsUnnoted (Spends merged.job) result self.old self.new pass.old pass.new ⊎ FinishesRecorded merged.job result self.old self.new pass.old pass.new }
-        // What a crash leaves.
+        // What a crash leaves, and what the call does to files.
         ensures upholds { S.tells → Upholds (S.world self.old.tree.store) (S.world self.new.tree.store) self.old.tree.core self.new.tree.core }
-        // The store is blamed only where a call of it failed.
-        ensures causes { HasCause (Blames result) (S.world self.old.tree.store) (S.world self.new.tree.store) }
-        // Behind a whole clean-up no file is left of what went.
-        ensures gone { S.tells → result ≡ Ok Finished.Installed → LeavesNoFiles (S.world self.new.tree.store) self.old.tree.core.history self.new.tree.core.history }
-        // Where nothing is installed, and nothing refused, no call of the store is made.
-        ensures rests { IfOk result (λ f. EndsOrRests f self.old.tree.store self.new.tree.store) }
-        // Refused, no table's file is left of what it wrote, unless a call of the store failed, or a version may name it.
-        ensures refused { S.tells → RemovesRefused result self.old.tree.core self.new.tree.core (S.world self.old.tree.store) (S.world self.new.tree.store) }
-        ensures no_call { IsSome self.old.tree.core.lost → self.new.tree.store ≡ self.old.tree.store }
+        ensures files { FinishesFiles result S.tells S.world self.old.tree self.new.tree }
         ensures views { Stays self.old.tree.core self.new.tree.core }
         ensures opened { self.new.opened ≡ self.old.opened }
     {
@@ -137,13 +115,7 @@ impl<S: Store> Recorded<S> {
             return Err(Error::OutOfMemory);
         };
         let (finished, entries) = finish_noting(&mut self.core, merged, entries);
-        put_entries(
-            &mut self.journal,
-            &mut pass.entries,
-            &mut self.floor,
-            entries,
-            copies,
-        );
+        put!(self, pass, entries, copies);
         finished
     }
 
@@ -173,10 +145,7 @@ impl<S: Store> Recorded<S> {
         requires { chosen.entries.items ≡ noted_of chosen.answer options.mvcc_gc_watermark self.old.tree.core }
         ensures compacts { RefusesUnnoted result self.old self.new pass.old pass.new ⊎ NotesWhatIsDone (λ events. CompactsAnswer chosen.answer options result events self.old.tree.core self.new.tree.core) self.old self.new pass.old pass.new }
         ensures upholds { S.tells → Upholds (S.world self.old.tree.store) (S.world self.new.tree.store) self.old.tree.core self.new.tree.core }
-        ensures causes { (Blames chosen.answer → ⊥) → HasCause (Blames result) (S.world self.old.tree.store) (S.world self.new.tree.store) }
-        ensures gone { S.tells → result ≡ Ok Begun.Installed → LeavesNoFiles (S.world self.new.tree.store) self.old.tree.core.history self.new.tree.core.history }
-        ensures rests { IfOk result (λ b. InstallsOrRests b self.old.tree.store self.new.tree.store) }
-        ensures refused { S.tells → RemovesRefused result self.old.tree.core self.new.tree.core (S.world self.old.tree.store) (S.world self.new.tree.store) }
+        ensures files { (Blames chosen.answer → ⊥) → CompactsFiles result S.tells S.world self.old.tree self.new.tree }
         ensures no_call { IsSome self.old.tree.core.lost → self.new.tree.store ≡ self.old.tree.store }
         ensures views { StaysBehind self.old.journal self.new.journal self.old.tree.core self.new.tree.core }
         ensures opened { self.new.opened ≡ self.old.opened }
@@ -190,13 +159,7 @@ impl<S: Store> Recorded<S> {
             return Err(Error::OutOfMemory);
         };
         let (begun, entries) = compact_chosen(&mut self.core, chosen, options);
-        put_entries(
-            &mut self.journal,
-            &mut pass.entries,
-            &mut self.floor,
-            entries,
-            copies,
-        );
+        put!(self, pass, entries, copies);
         begun
     }
 
@@ -214,17 +177,9 @@ impl<S: Store> Recorded<S> {
         options: Options,
     ) -> Result<Begun, Error>
         ensures compacts { CompactsRecorded (may_choose strategy.now) (may_refuse strategy.now) options result self.old self.new pass.old pass.new }
-        // What a crash leaves.
+        // What a crash leaves, and what the call does to files.
         ensures upholds { S.tells → Upholds (S.world self.old.tree.store) (S.world self.new.tree.store) self.old.tree.core self.new.tree.core }
-        // The store is blamed only where a call of it failed.
-        ensures causes { HasCause (Blames result) (S.world self.old.tree.store) (S.world self.new.tree.store) }
-        // Behind a whole clean-up no file is left of what went.
-        ensures gone { S.tells → result ≡ Ok Begun.Installed → LeavesNoFiles (S.world self.new.tree.store) self.old.tree.core.history self.new.tree.core.history }
-        // Where nothing is installed, and nothing refused, no call of the store is made.
-        ensures rests { IfOk result (λ b. InstallsOrRests b self.old.tree.store self.new.tree.store) }
-        // Refused, no table's file is left of what it wrote, unless a call of the store failed, or a version may name it.
-        ensures refused { S.tells → RemovesRefused result self.old.tree.core self.new.tree.core (S.world self.old.tree.store) (S.world self.new.tree.store) }
-        ensures no_call { IsSome self.old.tree.core.lost → self.new.tree.store ≡ self.old.tree.store }
+        ensures files { CompactsFiles result S.tells S.world self.old.tree self.new.tree }
         ensures views { StaysBehind self.old.journal self.new.journal self.old.tree.core self.new.tree.core }
         ensures opened { self.new.opened ≡ self.old.opened }
     {
@@ -244,17 +199,9 @@ impl<S: Store> Recorded<S> {
         options: Options,
     ) -> Result<Begun, Error>
         ensures compacts { CompactsRecorded (C.may_choose strategy.now) (C.may_refuse strategy.now) options result self.old self.new pass.old pass.new }
-        // What a crash leaves.
+        // What a crash leaves, and what the call does to files.
         ensures upholds { S.tells → Upholds (S.world self.old.tree.store) (S.world self.new.tree.store) self.old.tree.core self.new.tree.core }
-        // The store is blamed only where a call of it failed.
-        ensures causes { HasCause (Blames result) (S.world self.old.tree.store) (S.world self.new.tree.store) }
-        // Behind a whole clean-up no file is left of what went.
-        ensures gone { S.tells → result ≡ Ok Begun.Installed → LeavesNoFiles (S.world self.new.tree.store) self.old.tree.core.history self.new.tree.core.history }
-        // Where nothing is installed, and nothing refused, no call of the store is made.
-        ensures rests { IfOk result (λ b. InstallsOrRests b self.old.tree.store self.new.tree.store) }
-        // Refused, no table's file is left of what it wrote, unless a call of the store failed, or a version may name it.
-        ensures refused { S.tells → RemovesRefused result self.old.tree.core self.new.tree.core (S.world self.old.tree.store) (S.world self.new.tree.store) }
-        ensures no_call { IsSome self.old.tree.core.lost → self.new.tree.store ≡ self.old.tree.store }
+        ensures files { CompactsFiles result S.tells S.world self.old.tree self.new.tree }
         ensures views { StaysBehind self.old.journal self.new.journal self.old.tree.core self.new.tree.core }
         ensures opened { self.new.opened ≡ self.old.opened }
     {
@@ -279,17 +226,9 @@ impl<S: Store> Recorded<S> {
         watermark: SeqNo,
     ) -> Result<Begun, Error>
         ensures compacts { CompactsRecorded (may_choose strategy.now) (may_refuse strategy.now) (options_at watermark self.old.tree.core) result self.old self.new pass.old pass.new }
-        // What a crash leaves.
+        // What a crash leaves, and what the call does to files.
         ensures upholds { S.tells → Upholds (S.world self.old.tree.store) (S.world self.new.tree.store) self.old.tree.core self.new.tree.core }
-        // The store is blamed only where a call of it failed.
-        ensures causes { HasCause (Blames result) (S.world self.old.tree.store) (S.world self.new.tree.store) }
-        // Behind a whole clean-up no file is left of what went.
-        ensures gone { S.tells → result ≡ Ok Begun.Installed → LeavesNoFiles (S.world self.new.tree.store) self.old.tree.core.history self.new.tree.core.history }
-        // Where nothing is installed, and nothing refused, no call of the store is made.
-        ensures rests { IfOk result (λ b. InstallsOrRests b self.old.tree.store self.new.tree.store) }
-        // Refused, no table's file is left of what it wrote, unless a call of the store failed, or a version may name it.
-        ensures refused { S.tells → RemovesRefused result self.old.tree.core self.new.tree.core (S.world self.old.tree.store) (S.world self.new.tree.store) }
-        ensures no_call { IsSome self.old.tree.core.lost → self.new.tree.store ≡ self.old.tree.store }
+        ensures files { CompactsFiles result S.tells S.world self.old.tree self.new.tree }
         ensures views { StaysBehind self.old.journal self.new.journal self.old.tree.core self.new.tree.core }
         ensures opened { self.new.opened ≡ self.old.opened }
     {
@@ -309,17 +248,9 @@ impl<S: Store> Recorded<S> {
         watermark: SeqNo,
     ) -> Result<Begun, Error>
         ensures compacts { CompactsRecorded (major_choice target) only_memory (options_at watermark self.old.tree.core) result self.old self.new pass.old pass.new }
-        // What a crash leaves.
+        // What a crash leaves, and what the call does to files.
         ensures upholds { S.tells → Upholds (S.world self.old.tree.store) (S.world self.new.tree.store) self.old.tree.core self.new.tree.core }
-        // The store is blamed only where a call of it failed.
-        ensures causes { HasCause (Blames result) (S.world self.old.tree.store) (S.world self.new.tree.store) }
-        // Behind a whole clean-up no file is left of what went.
-        ensures gone { S.tells → result ≡ Ok Begun.Installed → LeavesNoFiles (S.world self.new.tree.store) self.old.tree.core.history self.new.tree.core.history }
-        // Where nothing is installed, and nothing refused, no call of the store is made.
-        ensures rests { IfOk result (λ b. InstallsOrRests b self.old.tree.store self.new.tree.store) }
-        // Refused, no table's file is left of what it wrote, unless a call of the store failed, or a version may name it.
-        ensures refused { S.tells → RemovesRefused result self.old.tree.core self.new.tree.core (S.world self.old.tree.store) (S.world self.new.tree.store) }
-        ensures no_call { IsSome self.old.tree.core.lost → self.new.tree.store ≡ self.old.tree.store }
+        ensures files { CompactsFiles result S.tells S.world self.old.tree self.new.tree }
         ensures views { StaysBehind self.old.journal self.new.journal self.old.tree.core self.new.tree.core }
         ensures opened { self.new.opened ≡ self.old.opened }
     {
@@ -335,17 +266,9 @@ impl<S: Store> Recorded<S> {
     /// Those of `do_compaction`, but for the refusals of other strategies. `Unrecoverable` goes before reversed bounds.
     pub fn drop_range(&mut self, pass: &mut Pass, bounds: OwnedBounds) -> Result<Begun, Error>
         ensures drops { DropsRecorded bounds result self.old self.new pass.old pass.new }
-        // What a crash leaves.
+        // What a crash leaves, and what the call does to files.
         ensures upholds { S.tells → Upholds (S.world self.old.tree.store) (S.world self.new.tree.store) self.old.tree.core self.new.tree.core }
-        // The store is blamed only where a call of it failed.
-        ensures causes { HasCause (Blames result) (S.world self.old.tree.store) (S.world self.new.tree.store) }
-        // Behind a whole clean-up no file is left of what went.
-        ensures gone { S.tells → result ≡ Ok Begun.Installed → LeavesNoFiles (S.world self.new.tree.store) self.old.tree.core.history self.new.tree.core.history }
-        // Where nothing is installed, and nothing refused, no call of the store is made.
-        ensures rests { IfOk result (λ b. InstallsOrRests b self.old.tree.store self.new.tree.store) }
-        // Refused, no table's file is left of what it wrote, unless a call of the store failed, or a version may name it.
-        ensures refused { S.tells → RemovesRefused result self.old.tree.core self.new.tree.core (S.world self.old.tree.store) (S.world self.new.tree.store) }
-        ensures no_call { IsSome self.old.tree.core.lost → self.new.tree.store ≡ self.old.tree.store }
+        ensures files { CompactsFiles result S.tells S.world self.old.tree self.new.tree }
         ensures views { StaysBehind self.old.journal self.new.journal self.old.tree.core self.new.tree.core }
         ensures opened { self.new.opened ≡ self.old.opened }
     {

@@ -1,21 +1,19 @@
 // The calls of a flush, and what they add to a journal.
-ghost use Rattle.std.specs.Prelude.{◌≡◌, ◌⊎◌, ◌<◌, [], None, map, true, false, IsSome, IfOk, IfErr, IfSome, IsErrOf};
-ghost use Rattle.lsm_commit.specs.Causes.{HasCause};
-ghost use Rattle.lsm_state.specs.Causes.{BlamesBeside, BlamesOrUnclean, BlamesOrUncleanFlush, BlamesOrUncleanBehind};
-ghost use Rattle.lsm_state.specs.Cleaning.{LeavesNoVersions, RemovesDrawn, RemovesTables};
+ghost use Rattle.std.specs.Prelude.{◌≡◌, ◌⊎◌, None};
 ghost use Rattle.lsm_state.specs.Commits.{Upholds};
-ghost use Rattle.lsm_state.specs.Flushes.{Begins, IsCurrent, WritesTables, spent};
+ghost use Rattle.lsm_state.specs.Flushes.{Begins, WritesTables, spent};
 ghost use Rattle.lsm_state.specs.WholeFlushes.{FlushesActive};
+ghost use Rattle.lsm_state.specs.Files.{WritesFiles, RegistersFiles, FlushesFiles, FlushesActiveFiles};
 ghost use Rattle.lsm_recorded.specs.Flushing.{SpendsUnnoted, IsSpentFlush, RegistersNoted, RefusesUnnoted, FlushesNoted, NotesActive};
 
-use crate::noting::{beside_copies, put_entries};
+use crate::noting::{beside_copies, put, put_entries};
 use crate::pass::Pass;
 use crate::recorded::Recorded;
 use lsm_below::{MemtableId, SeqNo};
 use lsm_flush::{FlushJob, MergedFlush, Registered, WrittenFlush};
 use lsm_journal::{flush_active_noting, flush_entries, flush_noting, register_noting};
 use lsm_model::reads_are_sound;
-use lsm_parts::{Error, LIMIT};
+use lsm_parts::Error;
 use lsm_state::flushes_keep_reads;
 use lsm_store::Store;
 
@@ -48,13 +46,9 @@ impl<S: Store> Recorded<S> {
         job: MergedFlush,
     ) -> Result<WrittenFlush, (Error, MergedFlush)>
         ensures core { WritesTables job result self.old.tree.core self.new.tree.core }
-        // What a crash leaves.
+        // What a crash leaves, and what the call does to files.
         ensures upholds { S.tells → Upholds (S.world self.old.tree.store) (S.world self.new.tree.store) self.old.tree.core self.new.tree.core }
-        // The store is blamed only where a call of it failed.
-        ensures causes { HasCause (BlamesBeside result) (S.world self.old.tree.store) (S.world self.new.tree.store) }
-        // Refused, no file is left, unless a call of the store failed.
-        ensures refused { S.tells → self.old.tree.core.next_table < LIMIT → IfErr result (λ _. RemovesDrawn self.old.tree.core.next_table self.new.tree.core.next_table (S.world self.old.tree.store) (S.world self.new.tree.store)) }
-        ensures no_call { IsSome self.old.tree.core.lost → self.new.tree.store ≡ self.old.tree.store }
+        ensures files { WritesFiles result S.tells S.world self.old.tree self.new.tree }
         ensures journal { self.new.journal ≡ self.old.journal }
         ensures pass { pass.new ≡ pass.old }
         ensures views { Stays self.old.tree.core self.new.tree.core }
@@ -94,17 +88,9 @@ impl<S: Store> Recorded<S> {
         job: WrittenFlush,
     ) -> Result<Registered, Error>
         ensures registers { SpendsUnnoted (IsSpentFlush job) result self.old self.new pass.old pass.new ⊎ RegistersNoted job result self.old self.new pass.old pass.new }
-        // What a crash leaves.
+        // What a crash leaves, and what the call does to files.
         ensures upholds { S.tells → Upholds (S.world self.old.tree.store) (S.world self.new.tree.store) self.old.tree.core self.new.tree.core }
-        // The store is blamed only where a call of it failed.
-        ensures causes { HasCause (BlamesOrUnclean result) (S.world self.old.tree.store) (S.world self.new.tree.store) }
-        // Behind a whole clean-up no file is left of what went.
-        ensures gone { S.tells → IfOk result (λ a. a.installed ≡ true → a.cleaned ≡ true → LeavesNoVersions (S.world self.new.tree.store) self.old.tree.core.history self.new.tree.core.history) }
-        // Where the job is stale, no call of the store is made.
-        ensures rests { IfOk result (λ a. a.installed ≡ false → self.new.tree.store ≡ self.old.tree.store) }
-        // Where the counter or the level was full, no file is left of a current job, unless a call of the store failed.
-        ensures refused { S.tells → IsCurrent job self.old.tree.core → IsErrOf result Error.OutOfNumbers ⊎ IsErrOf result Error.TooManyRuns → RemovesTables (map (λ t. t.id) job.tables) (S.world self.old.tree.store) (S.world self.new.tree.store) }
-        ensures no_call { IsSome self.old.tree.core.lost → self.new.tree.store ≡ self.old.tree.store }
+        ensures files { RegistersFiles job result S.tells S.world self.old.tree self.new.tree }
         ensures views { Stays self.old.tree.core self.new.tree.core }
         ensures opened { self.new.opened ≡ self.old.opened }
     {
@@ -118,13 +104,7 @@ impl<S: Store> Recorded<S> {
             return Err(Error::OutOfMemory);
         };
         let (registered, entries) = register_noting(&mut self.core, job, entries);
-        put_entries(
-            &mut self.journal,
-            &mut pass.entries,
-            &mut self.floor,
-            entries,
-            copies,
-        );
+        put!(self, pass, entries, copies);
         registered
     }
 
@@ -141,18 +121,9 @@ impl<S: Store> Recorded<S> {
         watermark: SeqNo,
     ) -> Result<Option<(u64, Registered)>, Error>
         ensures flushes { RefusesUnnoted result self.old self.new pass.old pass.new ⊎ FlushesNoted watermark result self.old.tree.core self.new.tree.core self.old.journal self.new.journal pass.old pass.new }
-        // What a crash leaves.
+        // What a crash leaves, and what the call does to files.
         ensures upholds { S.tells → Upholds (S.world self.old.tree.store) (S.world self.new.tree.store) self.old.tree.core self.new.tree.core }
-        // The store is blamed only where a call of it failed.
-        ensures causes { HasCause (BlamesOrUncleanFlush result) (S.world self.old.tree.store) (S.world self.new.tree.store) }
-        // Behind a whole clean-up no file is left of what went.
-        ensures gone { S.tells → IfOk result (λ a. IfSome a (λ p. p.1.cleaned ≡ true → LeavesNoVersions (S.world self.new.tree.store) self.old.tree.core.history self.new.tree.core.history)) }
-        // Where nothing is sealed no call of the store is made.
-        ensures rests { IfOk result (λ a. a ≡ None → self.new.tree.store ≡ self.old.tree.store) }
-        // Refused, no table's file is left of what it wrote, unless a call of the store failed, or the outcome of a commit is
-        // unknown.
-        ensures refused { S.tells → self.old.tree.core.next_table < LIMIT → IfErr result (λ e. (e ≡ Error.CommitUnknown → ⊥) → RemovesDrawn self.old.tree.core.next_table self.new.tree.core.next_table (S.world self.old.tree.store) (S.world self.new.tree.store)) }
-        ensures no_call { IsSome self.old.tree.core.lost → self.new.tree.store ≡ self.old.tree.store }
+        ensures files { FlushesFiles result S.tells S.world self.old.tree self.new.tree }
         ensures views { Stays self.old.tree.core self.new.tree.core }
         ensures opened { self.new.opened ≡ self.old.opened }
     {
@@ -165,13 +136,7 @@ impl<S: Store> Recorded<S> {
             return Err(Error::OutOfMemory);
         };
         let (flushed, entries) = flush_noting(&mut self.core, watermark, entries);
-        put_entries(
-            &mut self.journal,
-            &mut pass.entries,
-            &mut self.floor,
-            entries,
-            copies,
-        );
+        put!(self, pass, entries, copies);
         flushed
     }
 
@@ -189,18 +154,9 @@ impl<S: Store> Recorded<S> {
     ) -> Result<(Option<MemtableId>, Option<(u64, Registered)>), (Error, Option<MemtableId>)>
         ensures core { FlushesActive watermark result self.old.tree.core self.new.tree.core }
         ensures noted { NotesActive watermark result self.old.tree.core self.new.tree.core self.old.journal self.new.journal pass.old pass.new }
-        // What a crash leaves.
+        // What a crash leaves, and what the call does to files.
         ensures upholds { S.tells → Upholds (S.world self.old.tree.store) (S.world self.new.tree.store) self.old.tree.core self.new.tree.core }
-        // The store is blamed only where a call of it failed.
-        ensures causes { HasCause (BlamesOrUncleanBehind result) (S.world self.old.tree.store) (S.world self.new.tree.store) }
-        // Behind a whole clean-up no file is left of what went.
-        ensures gone { S.tells → IfOk result (λ a. IfSome a.1 (λ p. p.1.cleaned ≡ true → LeavesNoVersions (S.world self.new.tree.store) self.old.tree.core.history self.new.tree.core.history)) }
-        // Where nothing is flushed no call of the store is made.
-        ensures rests { IfOk result (λ a. a.1 ≡ None → self.new.tree.store ≡ self.old.tree.store) }
-        // Refused, no table's file is left of what it wrote, unless a call of the store failed, or the outcome of a commit is
-        // unknown.
-        ensures refused { S.tells → self.old.tree.core.next_table < LIMIT → IfErr result (λ e. (e.0 ≡ Error.CommitUnknown → ⊥) → RemovesDrawn self.old.tree.core.next_table self.new.tree.core.next_table (S.world self.old.tree.store) (S.world self.new.tree.store)) }
-        ensures no_call { IsSome self.old.tree.core.lost → self.new.tree.store ≡ self.old.tree.store }
+        ensures files { FlushesActiveFiles result S.tells S.world self.old.tree self.new.tree }
         ensures views { Stays self.old.tree.core self.new.tree.core }
         ensures opened { self.new.opened ≡ self.old.opened }
     {
@@ -213,13 +169,7 @@ impl<S: Store> Recorded<S> {
             return Err((Error::OutOfMemory, None));
         };
         let (flushed, entries) = flush_active_noting(&mut self.core, watermark, entries);
-        put_entries(
-            &mut self.journal,
-            &mut pass.entries,
-            &mut self.floor,
-            entries,
-            copies,
-        );
+        put!(self, pass, entries, copies);
         flushed
     }
 }

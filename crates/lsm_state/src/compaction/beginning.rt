@@ -1,5 +1,5 @@
 // How a compaction begins.
-ghost use Rattle.std.specs.Prelude.{◌≡◌, ◌<◌, [], None, IsSome, IfOk, IfErr, OnOk};
+ghost use Rattle.std.specs.Prelude.{◌≡◌, ◌<◌, [], None, IfOk, IfErr, OnOk};
 ghost use Rattle.lsm_checks.specs.Choices.{first_reason_of, AreThere, IsMovable};
 ghost use Rattle.lsm_pick.specs.declared.choice.Choice.TheVariants.{DoNothing, Move, Merge};
 ghost use Rattle.lsm_commit.specs.Causes.{HasCause, Blames};
@@ -8,6 +8,7 @@ ghost use Rattle.lsm_state.specs.Commits.{Upholds};
 ghost use Rattle.lsm_state.specs.Settling.{MaySettle, HasItsTables};
 ghost use Rattle.lsm_state.specs.Compactions.{hidden_in, levels_of, reason_of, IsPossible, IsMovedTo, IsDroppedFrom, IsNotMoved, IsNotDropped, InstallsChoice, OpensMerge, Does, BeginsChoice, BeginsCompaction, MayAnswer, error_of, InstallsOrRests};
 ghost use Rattle.lsm_state.specs.CompactionDeeds.{ChoiceDeeds};
+ghost use Rattle.lsm_state.specs.Files.{BeginsFiles};
 
 use crate::{Begun, Options, TreeState, compactions_are_deeds};
 use lsm_below::TableId;
@@ -204,10 +205,7 @@ impl<S: Store> TreeState<S> {
     fn begin_checked(&mut self, choice: Choice, options: Options) -> Result<Begun, Error>
         ensures begins { BeginsChoice choice options result self.old.core self.new.core }
         ensures upholds { S.tells → Upholds (S.world self.old.store) (S.world self.new.store) self.old.core self.new.core }
-        ensures causes { HasCause (Blames result) (S.world self.old.store) (S.world self.new.store) }
-        ensures gone { S.tells → result ≡ Ok Begun.Installed → LeavesNoFiles (S.world self.new.store) self.old.core.history self.new.core.history }
-        ensures rests { IfOk result (λ b. InstallsOrRests b self.old.store self.new.store) }
-        ensures no_call { IsSome self.old.core.lost → self.new.store ≡ self.old.store }
+        ensures files { BeginsFiles result S.tells S.world self.old self.new }
     {
         self.is_upheld();
         if self.is_uncertain() {
@@ -232,15 +230,9 @@ impl<S: Store> TreeState<S> {
     /// installed, but the store failed behind it: files may stay that nothing needs.
     pub fn begin_choice(&mut self, choice: Choice, options: Options) -> Result<Begun, Error>
         ensures begins { BeginsChoice choice options result self.old.core self.new.core }
-        // What a crash leaves.
+        // What a crash leaves, and what the call does to files.
         ensures upholds { S.tells → Upholds (S.world self.old.store) (S.world self.new.store) self.old.core self.new.core }
-        // The store is blamed only where a call of it failed.
-        ensures causes { HasCause (Blames result) (S.world self.old.store) (S.world self.new.store) }
-        // Behind a whole clean-up no file is left of what went.
-        ensures gone { S.tells → result ≡ Ok Begun.Installed → LeavesNoFiles (S.world self.new.store) self.old.core.history self.new.core.history }
-        // Where nothing is installed, and nothing refused, no call of the store is made.
-        ensures rests { IfOk result (λ b. InstallsOrRests b self.old.store self.new.store) }
-        ensures no_call { IsSome self.old.core.lost → self.new.store ≡ self.old.store }
+        ensures files { BeginsFiles result S.tells S.world self.old self.new }
         // As the theories see it: the mark, and behind it the move or the drop with its maintenance, or one of unknown outcome.
         ensures deeds { ChoiceDeeds choice options.mvcc_gc_watermark result self.old.core self.new.core }
     {
@@ -277,9 +269,7 @@ impl<S: Store> TreeState<S> {
         ensures refused { IfErr chosen (λ e. result ≡ Err (error_of e)) }
         ensures same { IfErr chosen (λ e. self.new.core ≡ self.old.core) }
         ensures upholds { S.tells → Upholds (S.world self.old.store) (S.world self.new.store) self.old.core self.new.core }
-        ensures causes { HasCause (Blames result) (S.world self.old.store) (S.world self.new.store) }
-        ensures gone { S.tells → result ≡ Ok Begun.Installed → LeavesNoFiles (S.world self.new.store) self.old.core.history self.new.core.history }
-        ensures rests { IfOk result (λ b. InstallsOrRests b self.old.store self.new.store) }
+        ensures files { BeginsFiles result S.tells S.world self.old self.new }
     {
         self.is_upheld();
         match chosen {
@@ -301,15 +291,9 @@ impl<S: Store> TreeState<S> {
         options: Options,
     ) -> Result<Begun, Error>
         ensures begins { BeginsCompaction (may_choose strategy.now) (may_refuse strategy.now) options result self.old.core self.new.core }
-        // What a crash leaves.
+        // What a crash leaves, and what the call does to files.
         ensures upholds { S.tells → Upholds (S.world self.old.store) (S.world self.new.store) self.old.core self.new.core }
-        // The store is blamed only where a call of it failed.
-        ensures causes { HasCause (Blames result) (S.world self.old.store) (S.world self.new.store) }
-        // Behind a whole clean-up no file is left of what went.
-        ensures gone { S.tells → result ≡ Ok Begun.Installed → LeavesNoFiles (S.world self.new.store) self.old.core.history self.new.core.history }
-        // Where nothing is installed, and nothing refused, no call of the store is made.
-        ensures rests { IfOk result (λ b. InstallsOrRests b self.old.store self.new.store) }
-        ensures no_call { IsSome self.old.core.lost → self.new.store ≡ self.old.store }
+        ensures files { BeginsFiles result S.tells S.world self.old self.new }
     {
         self.is_upheld();
         if self.is_uncertain() {
@@ -326,15 +310,9 @@ impl<S: Store> TreeState<S> {
         options: Options,
     ) -> Result<Begun, Error>
         ensures begins { BeginsCompaction (C.may_choose strategy.now) (C.may_refuse strategy.now) options result self.old.core self.new.core }
-        // What a crash leaves.
+        // What a crash leaves, and what the call does to files.
         ensures upholds { S.tells → Upholds (S.world self.old.store) (S.world self.new.store) self.old.core self.new.core }
-        // The store is blamed only where a call of it failed.
-        ensures causes { HasCause (Blames result) (S.world self.old.store) (S.world self.new.store) }
-        // Behind a whole clean-up no file is left of what went.
-        ensures gone { S.tells → result ≡ Ok Begun.Installed → LeavesNoFiles (S.world self.new.store) self.old.core.history self.new.core.history }
-        // Where nothing is installed, and nothing refused, no call of the store is made.
-        ensures rests { IfOk result (λ b. InstallsOrRests b self.old.store self.new.store) }
-        ensures no_call { IsSome self.old.core.lost → self.new.store ≡ self.old.store }
+        ensures files { BeginsFiles result S.tells S.world self.old self.new }
     {
         self.is_upheld();
         if self.is_uncertain() {

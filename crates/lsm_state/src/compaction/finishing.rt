@@ -1,5 +1,5 @@
 // How a merge ends.
-ghost use Rattle.std.specs.Prelude.{ℕ, ◌≡◌, ◌≤◌, ◌<◌, ◌⊎◌, ◌↔◌, ◌+◌, true, false, None, length, IsSome, IsTrue, Ok, IfOk, IfErr, OnOk, IsErrOf};
+ghost use Rattle.std.specs.Prelude.{ℕ, ◌≡◌, ◌≤◌, ◌<◌, ◌⊎◌, ◌↔◌, ◌+◌, true, false, None, length, IsTrue, Ok, IfOk, IfErr, OnOk, IsErrOf};
 ghost use Rattle.std.specs.List.{range_with_len, AllByRecursion};
 ghost use Rattle.lsm_below.specs.Optimizes.{tables_of};
 ghost use Rattle.lsm_checks.specs.Choices.{EndsAs};
@@ -16,6 +16,7 @@ ghost use Rattle.lsm_state.specs.Settling.{MaySettle, HasItsTables};
 ghost use Rattle.lsm_state.specs.Compactions.{levels_of, closed, AreMerged, MayMerge, IsMergedInto, DrawsFor, InstallsMerge, Ends, EndsOrRests, Spends, Finishes};
 ghost use Rattle.lsm_state.specs.CompactionDeeds.{MergeDeeds};
 ghost use Rattle.lsm_state.specs.OwnInputs.{HasOwnInputs};
+ghost use Rattle.lsm_state.specs.Files.{FinishesFiles};
 
 use crate::{Finished, TreeState, compactions_are_deeds};
 use bytes::Bytes;
@@ -210,10 +211,7 @@ impl<S: Store> TreeState<S> {
         requires own { own ≡ true → HasOwnInputs merged.now.job self.old.core }
         ensures ends { Ends merged.now.job result self.old.core self.new.core }
         ensures upholds { S.tells → Upholds (S.world self.old.store) (S.world self.new.store) self.old.core self.new.core }
-        ensures causes { HasCause (Blames result) (S.world self.old.store) (S.world self.new.store) }
-        ensures gone { S.tells → result ≡ Ok Finished.Installed → LeavesNoFiles (S.world self.new.store) self.old.core.history self.new.core.history }
-        ensures rests { IfOk result (λ f. EndsOrRests f self.old.store self.new.store) }
-        ensures refused { S.tells → RemovesRefused result self.old.core self.new.core (S.world self.old.store) (S.world self.new.store) }
+        ensures files { FinishesFiles result S.tells S.world self.old self.new }
     {
         self.is_upheld();
         let job = merged.job();
@@ -230,11 +228,7 @@ impl<S: Store> TreeState<S> {
         requires own { own ≡ true → HasOwnInputs merged.job self.old.core }
         ensures finishes { Finishes merged.job result self.old.core self.new.core }
         ensures upholds { S.tells → Upholds (S.world self.old.store) (S.world self.new.store) self.old.core self.new.core }
-        ensures causes { HasCause (Blames result) (S.world self.old.store) (S.world self.new.store) }
-        ensures gone { S.tells → result ≡ Ok Finished.Installed → LeavesNoFiles (S.world self.new.store) self.old.core.history self.new.core.history }
-        ensures rests { IfOk result (λ f. EndsOrRests f self.old.store self.new.store) }
-        ensures refused { S.tells → RemovesRefused result self.old.core self.new.core (S.world self.old.store) (S.world self.new.store) }
-        ensures no_call { IsSome self.old.core.lost → self.new.store ≡ self.old.store }
+        ensures files { FinishesFiles result S.tells S.world self.old self.new }
     {
         self.is_upheld();
         let open = self.spend(merged.job());
@@ -263,17 +257,9 @@ impl<S: Store> TreeState<S> {
     /// files that were written are removed, as far as the store lets it; a sequence number and ids of tables may be used.
     pub fn finish_compaction(&mut self, merged: MergedCompaction) -> Result<Finished, Error>
         ensures finishes { Finishes merged.job result self.old.core self.new.core }
-        // What a crash leaves.
+        // What a crash leaves, and what the call does to files.
         ensures upholds { S.tells → Upholds (S.world self.old.store) (S.world self.new.store) self.old.core self.new.core }
-        // The store is blamed only where a call of it failed.
-        ensures causes { HasCause (Blames result) (S.world self.old.store) (S.world self.new.store) }
-        // Behind a whole clean-up no file is left of what went.
-        ensures gone { S.tells → result ≡ Ok Finished.Installed → LeavesNoFiles (S.world self.new.store) self.old.core.history self.new.core.history }
-        // Where nothing is installed, and nothing refused, no call of the store is made.
-        ensures rests { IfOk result (λ f. EndsOrRests f self.old.store self.new.store) }
-        // Refused, no table's file is left of what it wrote, unless a call of the store failed, or a version may name it.
-        ensures refused { S.tells → RemovesRefused result self.old.core self.new.core (S.world self.old.store) (S.world self.new.store) }
-        ensures no_call { IsSome self.old.core.lost → self.new.store ≡ self.old.store }
+        ensures files { FinishesFiles result S.tells S.world self.old self.new }
         // As the theories see it: the merge and its maintenance, or one of unknown outcome, else nothing.
         ensures deeds { MergeDeeds merged.job result self.old.core self.new.core }
     {
@@ -287,11 +273,7 @@ impl<S: Store> TreeState<S> {
         requires { HasOwnInputs merged.job self.old.core }
         ensures finishes { Finishes merged.job result self.old.core self.new.core }
         ensures upholds { S.tells → Upholds (S.world self.old.store) (S.world self.new.store) self.old.core self.new.core }
-        ensures causes { HasCause (Blames result) (S.world self.old.store) (S.world self.new.store) }
-        ensures gone { S.tells → result ≡ Ok Finished.Installed → LeavesNoFiles (S.world self.new.store) self.old.core.history self.new.core.history }
-        ensures rests { IfOk result (λ f. EndsOrRests f self.old.store self.new.store) }
-        ensures refused { S.tells → RemovesRefused result self.old.core self.new.core (S.world self.old.store) (S.world self.new.store) }
-        ensures no_call { IsSome self.old.core.lost → self.new.store ≡ self.old.store }
+        ensures files { FinishesFiles result S.tells S.world self.old self.new }
         ensures deeds { MergeDeeds merged.job result self.old.core self.new.core }
     {
         compactions_are_deeds();

@@ -1,14 +1,10 @@
 // A compaction in one call.
-ghost use Rattle.std.specs.Prelude.{◌≡◌, Ok, IfOk, IsSome};
-ghost use Rattle.lsm_commit.specs.Causes.{HasCause, Blames};
-ghost use Rattle.lsm_state.specs.Causes.{BlamesEnd};
-ghost use Rattle.lsm_compaction.specs.Merges.{SeenCompaction};
+ghost use Rattle.std.specs.Prelude.{◌≡◌, Ok};
 ghost use Rattle.lsm_state.specs.declared.compaction.Begun.TheVariants.{Job};
-ghost use Rattle.lsm_state.specs.Cleaning.{LeavesNoFiles, RemovesRefused};
 ghost use Rattle.lsm_state.specs.Commits.{Upholds};
-ghost use Rattle.lsm_state.specs.Compactions.{InstallsOrRests};
 ghost use Rattle.lsm_state.specs.OwnInputs.{HasOwnInputs, BeganHere};
-ghost use Rattle.lsm_state.specs.WholeCompactions.{Completes, Follows, CompactsChoice, Compacts, DropsRange, options_at, only_memory, major_choice, drop_choice};
+ghost use Rattle.lsm_state.specs.WholeCompactions.{Completes, Follows, CompactsChoice, Compacts, DropsRange, options_at, only_memory, major_choice};
+ghost use Rattle.lsm_state.specs.Files.{CompactsFiles, FollowsFiles};
 
 use crate::{Begun, Finished, Options, TreeState};
 use lsm_below::SeqNo;
@@ -23,11 +19,7 @@ impl<S: Store> TreeState<S> {
         requires { HasOwnInputs job self.old.core }
         ensures completes { Completes job result self.old.core self.new.core }
         ensures upholds { S.tells → Upholds (S.world self.old.store) (S.world self.new.store) self.old.core self.new.core }
-        ensures causes { HasCause (Blames result) (S.world self.old.store) (S.world self.new.store) }
-        ensures gone { S.tells → result ≡ Ok Begun.Installed → LeavesNoFiles (S.world self.new.store) self.old.core.history self.new.core.history }
-        ensures rests { IfOk result (λ b. InstallsOrRests b self.old.store self.new.store) }
-        ensures refused { S.tells → RemovesRefused result self.old.core self.new.core (S.world self.old.store) (S.world self.new.store) }
-        ensures no_call { IsSome self.old.core.lost → self.new.store ≡ self.old.store }
+        ensures files { CompactsFiles result S.tells S.world self.old self.new }
     {
         let merged = match job.run() {
             Ok(merged) => merged,
@@ -48,12 +40,7 @@ impl<S: Store> TreeState<S> {
         requires { BeganHere begun self.old.core }
         ensures follows { Follows begun result self.old.core self.new.core }
         ensures upholds { S.tells → Upholds (S.world self.old.store) (S.world self.new.store) self.old.core self.new.core }
-        ensures causes { HasCause (BlamesEnd begun result) (S.world self.old.store) (S.world self.new.store) }
-        ensures gone { S.tells → (job : SeenCompaction) → begun ≡ Ok (Job job) → result ≡ Ok Begun.Installed → LeavesNoFiles (S.world self.new.store) self.old.core.history self.new.core.history }
-        ensures done { begun ≡ Ok Begun.Installed → self.new.store ≡ self.old.store }
-        ensures rests { IfOk result (λ b. InstallsOrRests b self.old.store self.new.store) }
-        ensures refused { S.tells → RemovesRefused result self.old.core self.new.core (S.world self.old.store) (S.world self.new.store) }
-        ensures no_call { IsSome self.old.core.lost → self.new.store ≡ self.old.store }
+        ensures files { FollowsFiles begun result S.tells S.world self.old self.new }
     {
         self.is_upheld();
         match begun {
@@ -74,17 +61,9 @@ impl<S: Store> TreeState<S> {
     /// up, and nothing is installed.
     pub fn compact_choice(&mut self, choice: Choice, options: Options) -> Result<Begun, Error>
         ensures compacts { CompactsChoice choice options result self.old.core self.new.core }
-        // What a crash leaves.
+        // What a crash leaves, and what the call does to files.
         ensures upholds { S.tells → Upholds (S.world self.old.store) (S.world self.new.store) self.old.core self.new.core }
-        // The store is blamed only where a call of it failed.
-        ensures causes { HasCause (Blames result) (S.world self.old.store) (S.world self.new.store) }
-        // Behind a whole clean-up no file is left of what went.
-        ensures gone { S.tells → result ≡ Ok Begun.Installed → LeavesNoFiles (S.world self.new.store) self.old.core.history self.new.core.history }
-        // Where nothing is installed, and nothing refused, no call of the store is made.
-        ensures rests { IfOk result (λ b. InstallsOrRests b self.old.store self.new.store) }
-        // Refused, no table's file is left of what it wrote, unless a call of the store failed, or a version may name it.
-        ensures refused { S.tells → RemovesRefused result self.old.core self.new.core (S.world self.old.store) (S.world self.new.store) }
-        ensures no_call { IsSome self.old.core.lost → self.new.store ≡ self.old.store }
+        ensures files { CompactsFiles result S.tells S.world self.old self.new }
     {
         self.facts();
         let begun = self.begin_choice(choice, options);
@@ -98,17 +77,9 @@ impl<S: Store> TreeState<S> {
         options: Options,
     ) -> Result<Begun, Error>
         ensures compacts { Compacts (C.may_choose strategy.now) (C.may_refuse strategy.now) options result self.old.core self.new.core }
-        // What a crash leaves.
+        // What a crash leaves, and what the call does to files.
         ensures upholds { S.tells → Upholds (S.world self.old.store) (S.world self.new.store) self.old.core self.new.core }
-        // The store is blamed only where a call of it failed.
-        ensures causes { HasCause (Blames result) (S.world self.old.store) (S.world self.new.store) }
-        // Behind a whole clean-up no file is left of what went.
-        ensures gone { S.tells → result ≡ Ok Begun.Installed → LeavesNoFiles (S.world self.new.store) self.old.core.history self.new.core.history }
-        // Where nothing is installed, and nothing refused, no call of the store is made.
-        ensures rests { IfOk result (λ b. InstallsOrRests b self.old.store self.new.store) }
-        // Refused, no table's file is left of what it wrote, unless a call of the store failed, or a version may name it.
-        ensures refused { S.tells → RemovesRefused result self.old.core self.new.core (S.world self.old.store) (S.world self.new.store) }
-        ensures no_call { IsSome self.old.core.lost → self.new.store ≡ self.old.store }
+        ensures files { CompactsFiles result S.tells S.world self.old self.new }
     {
         self.facts();
         let begun = self.begin_with(strategy, options);
@@ -136,17 +107,9 @@ impl<S: Store> TreeState<S> {
         watermark: SeqNo,
     ) -> Result<Begun, Error>
         ensures compacts { Compacts (may_choose strategy.now) (may_refuse strategy.now) (options_at watermark self.old.core) result self.old.core self.new.core }
-        // What a crash leaves.
+        // What a crash leaves, and what the call does to files.
         ensures upholds { S.tells → Upholds (S.world self.old.store) (S.world self.new.store) self.old.core self.new.core }
-        // The store is blamed only where a call of it failed.
-        ensures causes { HasCause (Blames result) (S.world self.old.store) (S.world self.new.store) }
-        // Behind a whole clean-up no file is left of what went.
-        ensures gone { S.tells → result ≡ Ok Begun.Installed → LeavesNoFiles (S.world self.new.store) self.old.core.history self.new.core.history }
-        // Where nothing is installed, and nothing refused, no call of the store is made.
-        ensures rests { IfOk result (λ b. InstallsOrRests b self.old.store self.new.store) }
-        // Refused, no table's file is left of what it wrote, unless a call of the store failed, or a version may name it.
-        ensures refused { S.tells → RemovesRefused result self.old.core self.new.core (S.world self.old.store) (S.world self.new.store) }
-        ensures no_call { IsSome self.old.core.lost → self.new.store ≡ self.old.store }
+        ensures files { CompactsFiles result S.tells S.world self.old self.new }
     {
         let options = self.options_at(watermark);
         do_compaction(self, strategy, options)
@@ -160,17 +123,9 @@ impl<S: Store> TreeState<S> {
     /// Those of `do_compaction`, but for the refusals of other strategies.
     pub fn major_compact(&mut self, target: u64, watermark: SeqNo) -> Result<Begun, Error>
         ensures compacts { Compacts (major_choice target) only_memory (options_at watermark self.old.core) result self.old.core self.new.core }
-        // What a crash leaves.
+        // What a crash leaves, and what the call does to files.
         ensures upholds { S.tells → Upholds (S.world self.old.store) (S.world self.new.store) self.old.core self.new.core }
-        // The store is blamed only where a call of it failed.
-        ensures causes { HasCause (Blames result) (S.world self.old.store) (S.world self.new.store) }
-        // Behind a whole clean-up no file is left of what went.
-        ensures gone { S.tells → result ≡ Ok Begun.Installed → LeavesNoFiles (S.world self.new.store) self.old.core.history self.new.core.history }
-        // Where nothing is installed, and nothing refused, no call of the store is made.
-        ensures rests { IfOk result (λ b. InstallsOrRests b self.old.store self.new.store) }
-        // Refused, no table's file is left of what it wrote, unless a call of the store failed, or a version may name it.
-        ensures refused { S.tells → RemovesRefused result self.old.core self.new.core (S.world self.old.store) (S.world self.new.store) }
-        ensures no_call { IsSome self.old.core.lost → self.new.store ≡ self.old.store }
+        ensures files { CompactsFiles result S.tells S.world self.old self.new }
     {
         let options = self.options_at(watermark);
         self.compact_with(&Major::new(target), options)
@@ -185,17 +140,9 @@ impl<S: Store> TreeState<S> {
     /// Those of `do_compaction`, but for the refusals of other strategies. `Unrecoverable` goes before all else.
     pub fn drop_range(&mut self, bounds: OwnedBounds) -> Result<Begun, Error>
         ensures drops { DropsRange bounds result self.old.core self.new.core }
-        // What a crash leaves.
+        // What a crash leaves, and what the call does to files.
         ensures upholds { S.tells → Upholds (S.world self.old.store) (S.world self.new.store) self.old.core self.new.core }
-        // The store is blamed only where a call of it failed.
-        ensures causes { HasCause (Blames result) (S.world self.old.store) (S.world self.new.store) }
-        // Behind a whole clean-up no file is left of what went.
-        ensures gone { S.tells → result ≡ Ok Begun.Installed → LeavesNoFiles (S.world self.new.store) self.old.core.history self.new.core.history }
-        // Where nothing is installed, and nothing refused, no call of the store is made.
-        ensures rests { IfOk result (λ b. InstallsOrRests b self.old.store self.new.store) }
-        // Refused, no table's file is left of what it wrote, unless a call of the store failed, or a version may name it.
-        ensures refused { S.tells → RemovesRefused result self.old.core self.new.core (S.world self.old.store) (S.world self.new.store) }
-        ensures no_call { IsSome self.old.core.lost → self.new.store ≡ self.old.store }
+        ensures files { CompactsFiles result S.tells S.world self.old self.new }
     {
         self.is_upheld();
         if self.is_uncertain() {
@@ -223,17 +170,9 @@ pub fn do_compaction<S: Store>(
     options: Options,
 ) -> Result<Begun, Error>
     ensures compacts { Compacts (may_choose strategy.now) (may_refuse strategy.now) options result tree.old.core tree.new.core }
-    // What a crash leaves.
+    // What a crash leaves, and what the call does to files.
     ensures upholds { S.tells → Upholds (S.world tree.old.store) (S.world tree.new.store) tree.old.core tree.new.core }
-    // The store is blamed only where a call of it failed.
-    ensures causes { HasCause (Blames result) (S.world tree.old.store) (S.world tree.new.store) }
-    // Behind a whole clean-up no file is left of what went.
-    ensures gone { S.tells → result ≡ Ok Begun.Installed → LeavesNoFiles (S.world tree.new.store) tree.old.core.history tree.new.core.history }
-    // Where nothing is installed, and nothing refused, no call of the store is made.
-    ensures rests { IfOk result (λ b. InstallsOrRests b tree.old.store tree.new.store) }
-    // Refused, no table's file is left of what it wrote, unless a call of the store failed, or a version may name it.
-    ensures refused { S.tells → RemovesRefused result tree.old.core tree.new.core (S.world tree.old.store) (S.world tree.new.store) }
-    ensures no_call { IsSome tree.old.core.lost → tree.new.store ≡ tree.old.store }
+    ensures files { CompactsFiles result S.tells S.world tree.old tree.new }
 {
     tree.facts();
     let begun = tree.begin_compaction(strategy, options);

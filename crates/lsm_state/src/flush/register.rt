@@ -15,6 +15,7 @@ ghost use Rattle.lsm_commit.specs.Foreign.{Passes};
 ghost use Rattle.lsm_state.specs.Commits.{UpholdsFiles, Upholds};
 ghost use Rattle.lsm_state.specs.Deeds.{IsMarkDeed};
 ghost use Rattle.lsm_state.specs.Flushes.{IsCurrent, IsFlushedOf, MayInstall, InstallsSpent, Registers, IsFlushDeed, IsLostFlush, spent};
+ghost use Rattle.lsm_state.specs.Files.{RegistersFiles};
 
 use crate::{TreeState, flushes_are_deeds};
 use lsm_below::{MemtableId, SeqNo, TableId};
@@ -249,17 +250,9 @@ impl<S: Store> TreeState<S> {
     /// the next opening removes what isn't named.
     pub fn register_tables(&mut self, job: WrittenFlush) -> Result<Registered, Error>
         ensures registers { Registers job result self.old.core self.new.core }
-        // What a crash leaves.
+        // What a crash leaves, and what the call does to files.
         ensures upholds { S.tells → Upholds (S.world self.old.store) (S.world self.new.store) self.old.core self.new.core }
-        // The store is blamed only where a call of it failed.
-        ensures causes { HasCause (BlamesOrUnclean result) (S.world self.old.store) (S.world self.new.store) }
-        // Behind a whole clean-up no file is left of what went.
-        ensures gone { S.tells → IfOk result (λ a. a.installed ≡ true → a.cleaned ≡ true → LeavesNoVersions (S.world self.new.store) self.old.core.history self.new.core.history) }
-        // Where the job is stale, no call of the store is made.
-        ensures rests { IfOk result (λ a. a.installed ≡ false → self.new.store ≡ self.old.store) }
-        // Where the counter or the level was full, no file is left of a current job, unless a call of the store failed.
-        ensures refused { S.tells → IsCurrent job self.old.core → IsErrOf result Error.OutOfNumbers ⊎ IsErrOf result Error.TooManyRuns → RemovesTables (map (λ t. t.id) job.tables) (S.world self.old.store) (S.world self.new.store) }
-        ensures no_call { IsSome self.old.core.lost → self.new.store ≡ self.old.store }
+        ensures files { RegistersFiles job result S.tells S.world self.old self.new }
         // As the theories see it: the mark, and behind it the flush and the maintenance, or one of unknown outcome.
         ensures marks { IsMarkDeed job.watermark self.old.core (spent job.job.number self.old.core) }
         ensures deeds { IfOk result (λ a. a.installed ≡ true → IsFlushDeed job self.old.core self.new.core) }

@@ -1,11 +1,11 @@
 // A flush in one call.
-ghost use Rattle.std.specs.Prelude.{◌≡◌, ◌<◌, [], None, true, false, IfOk, IfErr, IfSome, IsSome};
+ghost use Rattle.std.specs.Prelude.{◌≡◌, ◌<◌, None, true, false, IfErr, IsSome};
 ghost use Rattle.lsm_commit.specs.Foreign.{AtRest};
 ghost use Rattle.lsm_commit.specs.Causes.{HasCause, Blames};
-ghost use Rattle.lsm_state.specs.Cleaning.{LeavesNoVersions, RemovesDrawn};
-ghost use Rattle.lsm_state.specs.Causes.{BlamesOrUncleanFlush, BlamesOrUncleanBehind};
+ghost use Rattle.lsm_state.specs.Cleaning.{RemovesDrawn};
 ghost use Rattle.lsm_state.specs.Commits.{Upholds};
 ghost use Rattle.lsm_state.specs.WholeFlushes.{sealed_bytes, WritesJob, Flushes, MarksFlush, FlushesActive};
+ghost use Rattle.lsm_state.specs.Files.{FlushesFiles, FlushesActiveFiles};
 
 use crate::TreeState;
 use lsm_below::{MemtableId, SeqNo};
@@ -68,12 +68,7 @@ impl<S: Store> TreeState<S> {
         ensures marks { MarksFlush watermark marked.new result self.old.core self.new.core }
         ensures unmarked { marked.new ≡ false → self.new.core.seqno ≡ self.old.core.seqno }
         ensures upholds { S.tells → Upholds (S.world self.old.store) (S.world self.new.store) self.old.core self.new.core }
-        ensures causes { HasCause (BlamesOrUncleanFlush result) (S.world self.old.store) (S.world self.new.store) }
-        ensures gone { S.tells → IfOk result (λ a. IfSome a (λ p. p.1.cleaned ≡ true → LeavesNoVersions (S.world self.new.store) self.old.core.history self.new.core.history)) }
-        ensures refused { S.tells → self.old.core.next_table < LIMIT → IfErr result (λ e. (e ≡ Error.CommitUnknown → ⊥) → RemovesDrawn self.old.core.next_table self.new.core.next_table (S.world self.old.store) (S.world self.new.store)) }
-        ensures no_call { IsSome self.old.core.lost → self.new.store ≡ self.old.store }
-        // Where nothing is sealed it makes none either.
-        ensures rests { IfOk result (λ a. a ≡ None → self.new.store ≡ self.old.store) }
+        ensures files { FlushesFiles result S.tells S.world self.old self.new }
     {
         self.stays_stored();
         *marked = false;
@@ -104,18 +99,9 @@ impl<S: Store> TreeState<S> {
         ensures marks { MarksFlush watermark result.1 result.0 self.old.core self.new.core }
         // Without a mark no sequence number is used.
         ensures unmarked { result.1 ≡ false → self.new.core.seqno ≡ self.old.core.seqno }
-        // What a crash leaves.
+        // What a crash leaves, and what the call does to files.
         ensures upholds { S.tells → Upholds (S.world self.old.store) (S.world self.new.store) self.old.core self.new.core }
-        // The store is blamed only where a call of it failed.
-        ensures causes { HasCause (BlamesOrUncleanFlush (result.0)) (S.world self.old.store) (S.world self.new.store) }
-        // Behind a whole clean-up no file is left of what went.
-        ensures gone { S.tells → IfOk (result.0) (λ a. IfSome a (λ p. p.1.cleaned ≡ true → LeavesNoVersions (S.world self.new.store) self.old.core.history self.new.core.history)) }
-        // Refused, no table's file is left of what it wrote, unless a call of the store failed, or the outcome of a commit is
-        // unknown.
-        ensures refused { S.tells → self.old.core.next_table < LIMIT → IfErr (result.0) (λ e. (e ≡ Error.CommitUnknown → ⊥) → RemovesDrawn self.old.core.next_table self.new.core.next_table (S.world self.old.store) (S.world self.new.store)) }
-        ensures no_call { IsSome self.old.core.lost → self.new.store ≡ self.old.store }
-        // Where nothing is sealed it makes none either.
-        ensures rests { IfOk (result.0) (λ a. a ≡ None → self.new.store ≡ self.old.store) }
+        ensures files { FlushesFiles result.0 S.tells S.world self.old self.new }
     {
         let mut marked = false;
         let flushed = self.flush_marking(watermark, &mut marked);
@@ -141,18 +127,9 @@ impl<S: Store> TreeState<S> {
     /// tables may be used; files that were written are removed, as far as the store lets it, but not after `CommitUnknown`.
     pub fn flush(&mut self, watermark: SeqNo) -> Result<Option<(u64, Registered)>, Error>
         ensures flushes { Flushes watermark result self.old.core self.new.core }
-        // What a crash leaves.
+        // What a crash leaves, and what the call does to files.
         ensures upholds { S.tells → Upholds (S.world self.old.store) (S.world self.new.store) self.old.core self.new.core }
-        // The store is blamed only where a call of it failed.
-        ensures causes { HasCause (BlamesOrUncleanFlush result) (S.world self.old.store) (S.world self.new.store) }
-        // Behind a whole clean-up no file is left of what went.
-        ensures gone { S.tells → IfOk result (λ a. IfSome a (λ p. p.1.cleaned ≡ true → LeavesNoVersions (S.world self.new.store) self.old.core.history self.new.core.history)) }
-        // Refused, no table's file is left of what it wrote, unless a call of the store failed, or the outcome of a commit is
-        // unknown.
-        ensures refused { S.tells → self.old.core.next_table < LIMIT → IfErr result (λ e. (e ≡ Error.CommitUnknown → ⊥) → RemovesDrawn self.old.core.next_table self.new.core.next_table (S.world self.old.store) (S.world self.new.store)) }
-        ensures no_call { IsSome self.old.core.lost → self.new.store ≡ self.old.store }
-        // Where nothing is sealed it makes none either.
-        ensures rests { IfOk result (λ a. a ≡ None → self.new.store ≡ self.old.store) }
+        ensures files { FlushesFiles result S.tells S.world self.old self.new }
     {
         self.flush_with_mark(watermark).0
     }
@@ -170,18 +147,9 @@ impl<S: Store> TreeState<S> {
         watermark: SeqNo,
     ) -> Result<(Option<MemtableId>, Option<(u64, Registered)>), (Error, Option<MemtableId>)>
         ensures flushes { FlushesActive watermark result self.old.core self.new.core }
-        // What a crash leaves.
+        // What a crash leaves, and what the call does to files.
         ensures upholds { S.tells → Upholds (S.world self.old.store) (S.world self.new.store) self.old.core self.new.core }
-        // The store is blamed only where a call of it failed.
-        ensures causes { HasCause (BlamesOrUncleanBehind result) (S.world self.old.store) (S.world self.new.store) }
-        // Behind a whole clean-up no file is left of what went.
-        ensures gone { S.tells → IfOk result (λ a. IfSome a.1 (λ p. p.1.cleaned ≡ true → LeavesNoVersions (S.world self.new.store) self.old.core.history self.new.core.history)) }
-        // Where nothing is flushed no call of the store is made.
-        ensures rests { IfOk result (λ a. a.1 ≡ None → self.new.store ≡ self.old.store) }
-        // Refused, no table's file is left of what it wrote, unless a call of the store failed, or the outcome of a commit is
-        // unknown.
-        ensures refused { S.tells → self.old.core.next_table < LIMIT → IfErr result (λ e. (e.0 ≡ Error.CommitUnknown → ⊥) → RemovesDrawn self.old.core.next_table self.new.core.next_table (S.world self.old.store) (S.world self.new.store)) }
-        ensures no_call { IsSome self.old.core.lost → self.new.store ≡ self.old.store }
+        ensures files { FlushesActiveFiles result S.tells S.world self.old self.new }
     {
         self.stays_stored();
         let sealed = match self.rotate_memtable() {

@@ -3,7 +3,7 @@ ghost use Rattle.std.specs.Prelude.{◌≡◌, Err, IfOk, IfErr};
 ghost use Rattle.lsm_state.specs.Compactions.{BeginsChoice, BeginsCompaction, Finishes, Spends};
 ghost use Rattle.lsm_state.specs.WholeCompactions.{CompactsChoice, Compacts, DropsRange, options_at, only_memory, major_choice};
 ghost use Rattle.lsm_logged.specs.Asking.{Asks};
-ghost use Rattle.lsm_tree.specs.Files.{BeginsFiles, CompactsFiles, FinishesFiles};
+ghost use Rattle.lsm_state.specs.Files.{BeginsFiles, CompactsFiles, FinishesFiles};
 ghost use Rattle.lsm_tree.specs.Shared.{OnSomeLogged, TouchesTreeAlone, OnSomeLoggedFiles};
 ghost use Rattle.lsm_tree.specs.Gates.{IsNoJob, EndsGatedLogged, CompactsGatedLogged};
 

@@ -2,7 +2,7 @@
 ghost use Rattle.std.specs.Prelude.{◌≡◌};
 ghost use Rattle.lsm_state.specs.Flushes.{spent};
 ghost use Rattle.lsm_logged.specs.Flushing.{FlushesLogged, FlushesBoth, BeginsLogged, WritesJobLogged, RegistersLogged};
-ghost use Rattle.lsm_tree.specs.Files.{FlushesActiveFiles, FlushesFiles, RegistersFiles, WritesFiles};
+ghost use Rattle.lsm_state.specs.Files.{FlushesActiveFiles, FlushesFiles, RegistersFiles, WritesFiles};
 ghost use Rattle.lsm_tree.specs.Shared.{OnSomeLogged, TouchesTreeAlone, OnSomeLoggedFiles, OnSomeLoggedRemoving};
 
 use crate::handle::Handle;

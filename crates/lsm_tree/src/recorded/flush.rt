@@ -3,7 +3,7 @@ ghost use Rattle.std.specs.Prelude.{◌≡◌, ◌⊎◌};
 ghost use Rattle.lsm_state.specs.Flushes.{Begins, WritesTables, spent};
 ghost use Rattle.lsm_state.specs.WholeFlushes.{FlushesActive};
 ghost use Rattle.lsm_recorded.specs.Flushing.{SpendsUnnoted, IsSpentFlush, RegistersNoted, RefusesUnnoted, FlushesNoted, NotesActive};
-ghost use Rattle.lsm_tree.specs.Files.{FlushesActiveFiles, FlushesFiles, RegistersFiles, WritesFiles};
+ghost use Rattle.lsm_state.specs.Files.{FlushesActiveFiles, FlushesFiles, RegistersFiles, WritesFiles};
 ghost use Rattle.lsm_tree.specs.Shared.{OnSomeTreeAlone, OnSomeTreeFiles, OnSomeRecordedFiles};
 
 use crate::handle::Handle;

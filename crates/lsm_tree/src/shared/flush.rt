@@ -2,7 +2,7 @@
 ghost use Rattle.std.specs.Prelude.{◌≡◌, is_some};
 ghost use Rattle.lsm_state.specs.Flushes.{Begins, WritesTables, Registers, spent};
 ghost use Rattle.lsm_state.specs.WholeFlushes.{Flushes, FlushesActive};
-ghost use Rattle.lsm_tree.specs.Files.{FlushesActiveFiles, FlushesFiles, RegistersFiles, WritesFiles};
+ghost use Rattle.lsm_state.specs.Files.{FlushesActiveFiles, FlushesFiles, RegistersFiles, WritesFiles};
 ghost use Rattle.lsm_tree.specs.Shared.{OnSomeTreeAlone, AtSomeTree, OnSomeTreeFiles};
 
 use crate::handle::Handle;

@@ -1,7 +1,7 @@
 use Rattle.std.proofs.Common.{◌≡◌, Ok, List, length, take, refl, sym, ap, ◌∙◌, subst}
 use Rattle.lsm_model.specs.Journal.{Event}
-use Rattle.lsm_commit.specs.Causes.{Blames, no_fault}
-use Rattle.lsm_state.specs.Cleaning.{none_drawn}
+use Rattle.lsm_commit.specs.Causes.{Blames}
+use Rattle.lsm_state.proofs.Files.{refused_compacts}
 use Rattle.lsm_journal.specs.Noted.{noted_of, kept_of, CompactsAnswer, CompactsNoted}
 use Rattle.lsm_journal.proofs.Compacting.{compacts_noted}
 use Rattle.lsm_journal.proofs.compaction.whole.compact_chosen.Goals as goal
@@ -19,11 +19,7 @@ returns-in-Ok-clause-compacts g c =
     let events = c.told-entries.ensures.kept ∙ ap (λ (es : List Event). take (kept_of r (length es)) es) noted in
     subst (λ a. CompactsAnswer a o r c.told-entries.result.items old new) (sym c.in-Ok.is) (subst (λ es. CompactsNoted choice o r es old new) (sym events) (compacts_noted choice o r old new c.compact_choice-done.ensures.compacts))
 
-pub returns-in-Err-clause-causes : goal.returns-in-Err-clause-causes
-returns-in-Err-clause-causes g c blameless = no_fault _ _ _ refl (λ blamed. blameless (subst Blames (sym c.in-Err.is) blamed))
-
-pub returns-in-Err-clause-refused : goal.returns-in-Err-clause-refused
-returns-in-Err-clause-refused g c tells small known before =
-    let w = g.S.Store.world in
+pub returns-in-Err-clause-files : goal.returns-in-Err-clause-files
+returns-in-Err-clause-files g c blameless =
     let now = c.args.tree.now in
-    none_drawn now.core.next_table now.core.next_table (w now.store) (w now.store) refl
+    refused_compacts g.S.Store.tells g.S.Store.world _ now now (λ blamed. blameless (subst Blames (sym c.in-Err.is) blamed)) refl refl

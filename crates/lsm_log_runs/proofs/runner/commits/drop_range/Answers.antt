@@ -16,4 +16,4 @@ returns-clause-acts g c tells =
     (c.drop_range.result, c.of_begun.ensures, c.drop_range.ensures.acts tells))
 
 pub returns-clause-causes : goal.returns-clause-causes
-returns-clause-causes g c = begun_cause c.drop_range.result c.of_begun.result _ _ c.of_begun.ensures c.drop_range.ensures.causes
+returns-clause-causes g c = begun_cause c.drop_range.result c.of_begun.result _ _ c.of_begun.ensures c.drop_range.ensures.files.causes

@@ -46,9 +46,9 @@ returns-in-Err-clause-causes g c = refused_rotation_cause g.S.Store.world c.args
 pub returns-in-Ok-flush-clause-causes : goal.returns-in-Ok-flush-clause-causes
 returns-in-Ok-flush-clause-causes g c =
     let world = g.S.Store.world in
-    subst (λ x. HasCause (ReplyBlames (FlushedActive c.in-Ok.sealed c.in-Ok-flush.flushed)) (world x) (world c.flush.new.self.store)) c.rotate_memtable.ensures.store c.in-Ok-flush.ensures.causes
+    subst (λ x. HasCause (ReplyBlames (FlushedActive c.in-Ok.sealed c.in-Ok-flush.flushed)) (world x) (world c.flush.new.self.store)) c.rotate_memtable.ensures.store c.in-Ok-flush.ensures.files.causes
 
 pub returns-in-Err-flush-clause-causes : goal.returns-in-Err-flush-clause-causes
 returns-in-Err-flush-clause-causes g c =
     let world = g.S.Store.world in
-    subst (λ x. HasCause (ReplyBlames (RefusedActive c.in-Ok.sealed c.in-Err-flush.error)) (world x) (world c.flush.new.self.store)) c.rotate_memtable.ensures.store c.in-Err-flush.ensures.causes
+    subst (λ x. HasCause (ReplyBlames (RefusedActive c.in-Ok.sealed c.in-Err-flush.error)) (world x) (world c.flush.new.self.store)) c.rotate_memtable.ensures.store c.in-Err-flush.ensures.files.causes

@@ -5,4 +5,4 @@ pub returns-clause-acts : goal.returns-clause-acts
 returns-clause-acts g c tells = (c.major_compact.result, c.of_begun.ensures, c.major_compact.ensures.acts tells)
 
 pub returns-clause-causes : goal.returns-clause-causes
-returns-clause-causes g c = begun_cause c.major_compact.result c.of_begun.result _ _ c.of_begun.ensures c.major_compact.ensures.causes
+returns-clause-causes g c = begun_cause c.major_compact.result c.of_begun.result _ _ c.of_begun.ensures c.major_compact.ensures.files.causes

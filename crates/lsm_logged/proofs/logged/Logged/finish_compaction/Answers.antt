@@ -1,9 +1,11 @@
-use Rattle.std.proofs.Common.{refl, ap, inl, arith}
-use Rattle.lsm_logged.specs.Keeping.{SeenLogged}
+use Rattle.std.proofs.Common.{refl}
+use Rattle.lsm_logged.specs.Keeping.{tree_of}
 use Rattle.lsm_logged.proofs.FinishActs.{merge_acts, unsure_merge}
 use Rattle.lsm_logged.proofs.Reopening.{numbered_more}
 use Rattle.lsm_logged.proofs.Rising.{finishes}
-use Rattle.lsm_logged.proofs.Seen.{logged_with, refused_seen, end_rests_seen}
+use Rattle.lsm_logged.proofs.Seen.{logged_with}
+use Rattle.lsm_state.proofs.Files.{refused_ends}
+use Rattle.lsm_state.proofs.Causing.{no_way}
 use Rattle.lsm_logged.proofs.logged.Logged.finish_compaction.Goals as goal
 
 pub invariant_of-self : goal.invariant_of-self
@@ -27,16 +29,8 @@ returns-clause-acts g c tells =
     let new = logged_with mid i.numbers.items i.doubted in
     merge_acts c.args.merged.job g.S.Store.world old c.args.self.now new c.self.view_is known.tree known.compactions c.if-self.false refl (c.finish_compaction.ensures.upholds tells) c.finish_compaction.result c.finish_compaction.ensures.finishes
 
-pub returns-then-self-clause-refused : goal.returns-then-self-clause-refused
-returns-then-self-clause-refused g c tells small known before =
-    let same = ap (λ (t : SeenLogged g.row.S.Denot). t.core.next_table) c.self.view_is in
-    inl (λ i from below. absurd (omega (arith, same, from, below)))
+pub returns-then-self-clause-files : goal.returns-then-self-clause-files
+returns-then-self-clause-files g c = refused_ends g.S.Store.tells g.S.Store.world _ (tree_of c.args.self.now) (tree_of c.args.self.now) no_way refl refl
 
-pub returns-clause-refused : goal.returns-clause-refused
-returns-clause-refused g c tells =
-    let i = c.self.inside in
-    let new = c.finish_compaction.new.self in
-    refused_seen g.S.Store.world c.finish_compaction.result _ _ (logged_with new i.numbers.items i.doubted) c.self.view_is (c.finish_compaction.ensures.refused tells)
-
-pub returns-clause-rests : goal.returns-clause-rests
-returns-clause-rests g c = end_rests_seen c.finish_compaction.result _ _ c.finish_compaction.new.self.store c.self.view_is c.finish_compaction.ensures.rests
+pub returns-clause-files : goal.returns-clause-files
+returns-clause-files g c = rw (← c.self.view_is) c.finish_compaction.ensures.files

@@ -1,9 +1,8 @@
-use Rattle.std.proofs.Common.{◌≡◌, ◌⊎◌, ℕ, ◌<◌, ◌^◌, true, false, [], Option, Some, None, IfSome, Result, Ok, Err, IfErr, arith, inl, refl, sym, ap, ◌∙◌, subst}
+use Rattle.std.proofs.Common.{◌≡◌, ◌⊎◌, ℕ, ◌<◌, ◌^◌, false, [], Option, Some, None, Result, Ok, Err, refl, sym, ap, ◌∙◌, subst, rules}
 use Rattle.std.proofs.lemmas.Result.{err_from_is_err_and}
 use Rattle.lsm_below.specs.declared.error.Error.{Error}
-use Rattle.lsm_below.specs.declared.error.Error.TheVariants.{CommitUnknown, Unrecoverable}
+use Rattle.lsm_below.specs.declared.error.Error.TheVariants.{Unrecoverable}
 use Rattle.lsm_flush.specs.declared.jobs.Registered.{Registered}
-use Rattle.lsm_state.specs.Cleaning.{LeavesNoVersions, RemovesDrawn}
 use Rattle.lsm_state.specs.Flushes.{sealed_ids}
 use Rattle.lsm_state.specs.WholeFlushes.{Flushes}
 use Rattle.lsm_logged.specs.Keeping.{SeenLogged}
@@ -12,8 +11,10 @@ use Rattle.lsm_logged.specs.Acting.{FlushesAct}
 use Rattle.lsm_logged.proofs.FlushActs.{unsure_flush, refused_flush, installed_flush, none_flush}
 use Rattle.lsm_logged.proofs.Known.{known_still, leaves_logged, all_left, gone_left}
 use Rattle.lsm_logged.proofs.Removals.{passes_alone, none_alone, leaves_behind}
-use Rattle.lsm_logged.proofs.Gone.{gone_behind}
+use Rattle.lsm_logged.proofs.Gone.{gone_behind, cleaned_cause}
 use Rattle.lsm_logged.proofs.Seen.{logged_with}
+use Rattle.lsm_state.specs.Cleaning.{none_drawn}
+use Rattle.lsm_state.specs.Files.{FlushesFiles}
 use Rattle.lsm_logged.proofs.logged.Logged.flush.Goals as goal
 
 pub returns-in_err-flushed-clause-passes : goal.returns-in_err-flushed-clause-passes
@@ -119,28 +120,36 @@ returns-in-Some-clause-passed_are_gone g c tells cleaned =
     let gone = c.clean_log.ensures.gone tells (c.clean_log.ensures.cleans.installed ∙ f.installs.installed) cleaned in
     gone_left g.S.Store.world i.tree mid.core i.numbers.items i.doubted c.clean_log.new.self c.args.self.now c.self.view_is c.clean_log.ensures.cleans.core gone
 
-pub returns-then-is_flush_unsure-clause-refused : goal.returns-then-is_flush_unsure-clause-refused
-returns-then-is_flush_unsure-clause-refused g c tells small known =
-    let same = ap (λ (t : SeenLogged g.row.S.Denot). t.core.next_table) c.self.view_is in
-    inl (λ i from below. absurd (omega (arith, same, from, below)))
+pub returns-then-is_flush_unsure-clause-files : goal.returns-then-is_flush_unsure-clause-files
+returns-then-is_flush_unsure-clause-files g c =
+    record {
+      causes = search rules;
+      gone = search rules;
+      rests = search rules;
+      refused = λ tells small known. none_drawn _ _ (g.S.Store.world c.args.self.now.store) (g.S.Store.world c.args.self.now.store) refl;
+      no_call = search rules;
+    }
 
-pub returns-in_err-flushed-clause-refused : goal.returns-in_err-flushed-clause-refused
-returns-in_err-flushed-clause-refused g c tells =
-    let w = g.S.Store.world in
-    let i = c.self.inside in
-    let new = c.flush.new.self in
-    let old = logged_with i.tree i.numbers.items i.doubted in
+pub returns-in_err-flushed-clause-files : goal.returns-in_err-flushed-clause-files
+returns-in_err-flushed-clause-files g c =
     let told = err_from_is_err_and c.from_residual.result c.from_residual.ensures.1 in
-    subst (λ (t : SeenLogged g.row.S.Denot). t.core.next_table < 2 ^ 63 → IfErr c.from_residual.result (λ e. (e ≡ CommitUnknown → ⊥) → RemovesDrawn t.core.next_table new.core.next_table (w t.store) (w new.store))) c.self.view_is
-    (subst (λ (r : Result (Option (ℕ × Registered)) Error). old.core.next_table < 2 ^ 63 → IfErr r (λ e. (e ≡ CommitUnknown → ⊥) → RemovesDrawn old.core.next_table new.core.next_table (w old.store) (w new.store))) (sym (told.1 ∙ ap (λ (x : Error). Err x) told.2)) (c.in_err-flushed.ensures.refused tells))
+    rw (← c.self.view_is, told.1, told.2) c.in_err-flushed.ensures.files
 
-pub returns-in-Some-clause-gone : goal.returns-in-Some-clause-gone
-returns-in-Some-clause-gone g c tells cleaned =
+pub returns-in-Some-clause-files : goal.returns-in-Some-clause-files
+returns-in-Some-clause-files g c =
     let w = g.S.Store.world in
     let i = c.self.inside in
     let mid = c.flush.new.self in
-    let left = subst (λ (x : Option (ℕ × Registered)). IfSome x (λ p. p.1.cleaned ≡ true → LeavesNoVersions (w mid.store) i.tree.core.history mid.core.history)) c.in-Some.is (c.in_ok-flushed.ensures.gone tells) in
-    gone_behind w i.tree mid i.numbers.items i.doubted c.clean_log.new.self c.args.self.now c.self.view_is c.clean_log.ensures.cleans.core (c.clean_log.ensures.others tells) (left (c.clean_log.ensures.cleans.cleaned cleaned))
+    let files = subst (λ (x : Option (ℕ × Registered)). FlushesFiles (Ok x) g.S.Store.tells w i.tree mid) c.in-Some.is c.in_ok-flushed.ensures.files in
+    let cleans = c.clean_log.ensures.cleans in
+    record {
+      causes = rw (← c.self.view_is) (cleaned_cause c.in-Some.registered c.clean_log.result (w i.tree.store) (w mid.store) (w c.clean_log.new.self.store) files.causes c.clean_log.ensures.causes);
+      gone = λ tells cleaned. gone_behind w i.tree mid i.numbers.items i.doubted c.clean_log.new.self c.args.self.now c.self.view_is cleans.core (c.clean_log.ensures.others tells) (files.gone tells (cleans.cleaned cleaned));
+      rests = search rules;
+      refused = search rules;
+      no_call = search rules;
+    }
 
-pub returns-in-None-clause-rests : goal.returns-in-None-clause-rests
-returns-in-None-clause-rests g c none = c.in_ok-flushed.ensures.rests c.in-None.is ∙ ap (λ (t : SeenLogged g.row.S.Denot). t.store) c.self.view_is
+pub returns-in-None-clause-files : goal.returns-in-None-clause-files
+returns-in-None-clause-files g c =
+    rw (← c.self.view_is) (subst (λ (x : Option (ℕ × Registered)). FlushesFiles (Ok x) g.S.Store.tells g.S.Store.world c.self.inside.tree c.flush.new.self) c.in-None.is c.in_ok-flushed.ensures.files)

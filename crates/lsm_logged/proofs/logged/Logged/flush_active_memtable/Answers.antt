@@ -1,14 +1,12 @@
-use Rattle.std.proofs.Common.{◌≡◌, ℕ, ◌<◌, ◌^◌, true, List, None, IfSome, Ok, Err, ⊎_elim, inl, inr, refl, sym, ap, ◌∙◌, subst}
-use Rattle.lsm_below.specs.declared.error.Error.TheVariants.{CommitUnknown}
+use Rattle.std.proofs.Common.{◌≡◌, ℕ, true, List, None, IfSome, Ok, Err, ⊎_elim, inl, inr, refl, sym, ap, subst, rules}
 use Rattle.lsm_commit.specs.Foreign.{AtRest}
-use Rattle.lsm_state.specs.Cleaning.{RemovesDrawn, none_drawn}
+use Rattle.lsm_state.specs.Cleaning.{none_drawn}
 use Rattle.lsm_state.specs.Commits.{UpholdsFiles}
 use Rattle.lsm_state.proofs.Upholding.{upheld_still}
-use Rattle.lsm_state.proofs.WholeFlushes.{rotated_table}
-use Rattle.lsm_logged.specs.Keeping.{SeenLogged}
+use Rattle.lsm_state.proofs.Files.{rotated_files}
+use Rattle.lsm_logged.specs.Keeping.{SeenLogged, tree_of}
 use Rattle.lsm_logged.specs.Removing.{log_from_of, AreGone, KeepsKnown}
 use Rattle.lsm_logged.specs.Acting.{ActsBehind}
-use Rattle.lsm_logged.proofs.Gone.{rotated_gone}
 use Rattle.lsm_logged.proofs.Known.{known_still, known_behind}
 use Rattle.lsm_logged.proofs.Removals.{behind_rotated, upheld_rotated}
 use Rattle.lsm_logged.proofs.RotateActs.{refused_rotation, flushed_behind}
@@ -98,28 +96,19 @@ returns-in-Ok-flush-clause-passed_are_gone g c tells =
     let new = c.flush.new.self in
     subst (λ (l : List ℕ). IfSome c.in-Ok-flush.flushed (λ p. p.1.cleaned ≡ true → AreGone (w new.store) (log_from_of new.core) l)) c.in-Ok.ensures.log.0 (c.in-Ok-flush.ensures.passed_are_gone tells)
 
-pub returns-in-Err-clause-refused : goal.returns-in-Err-clause-refused
-returns-in-Err-clause-refused g c tells small known =
-    let w = g.S.Store.world in
-    let old = c.args.self.now in
-    let new = c.rotate_memtable.new.self in
-    none_drawn old.core.next_table new.core.next_table (w old.store) (w new.store) (ap (λ (t : SeenLogged g.row.S.Denot). t.core.next_table) c.in-Err.ensures.err)
+pub returns-in-Err-clause-files : goal.returns-in-Err-clause-files
+returns-in-Err-clause-files g c =
+    let same = ap (λ (t : SeenLogged g.row.S.Denot). t.core.next_table) c.in-Err.ensures.err in
+    record {
+      causes = search rules;
+      gone = search rules;
+      rests = tt;
+      refused = λ tells small known. none_drawn _ _ (g.S.Store.world c.args.self.now.store) (g.S.Store.world c.rotate_memtable.new.self.store) same;
+      no_call = search rules;
+    }
 
-pub returns-in-Err-flush-clause-refused : goal.returns-in-Err-flush-clause-refused
-returns-in-Err-flush-clause-refused g c tells =
-    let w = g.S.Store.world in
-    let old = c.args.self.now in
-    let mid = c.rotate_memtable.new.self in
-    let new = c.flush.new.self in
-    let e = c.in-Err-flush.error in
-    let same = rotated_table old.core c.in-Ok.sealed mid.core c.in-Ok.ensures.ok in
-    let did = subst (λ n. n < 2 ^ 63 → (e ≡ CommitUnknown → ⊥) → RemovesDrawn n new.core.next_table (w mid.store) (w new.store)) same (c.in-Err-flush.ensures.refused tells) in
-    subst (λ (s : g.row.S.Denot). old.core.next_table < 2 ^ 63 → (e ≡ CommitUnknown → ⊥) → RemovesDrawn old.core.next_table new.core.next_table (w s) (w new.store)) c.in-Ok.ensures.store did
+pub returns-in-Err-flush-clause-files : goal.returns-in-Err-flush-clause-files
+returns-in-Err-flush-clause-files g c = rotated_files g.S.Store.tells g.S.Store.world c.in-Ok.sealed (Err c.in-Err-flush.error) (tree_of c.args.self.now) (tree_of c.rotate_memtable.new.self) (tree_of c.flush.new.self) c.in-Ok.ensures.ok c.in-Ok.ensures.store c.in-Err-flush.ensures.files
 
-pub returns-in-Ok-flush-clause-gone : goal.returns-in-Ok-flush-clause-gone
-returns-in-Ok-flush-clause-gone g c tells =
-    let new = c.flush.new.self in
-    rotated_gone (g.S.Store.world new.store) c.in-Ok-flush.flushed c.args.self.now.core c.rotate_memtable.new.self.core c.in-Ok.sealed new.core.history c.in-Ok.ensures.ok (c.in-Ok-flush.ensures.gone tells)
-
-pub returns-in-Ok-flush-clause-rests : goal.returns-in-Ok-flush-clause-rests
-returns-in-Ok-flush-clause-rests g c none = c.in-Ok-flush.ensures.rests none ∙ c.in-Ok.ensures.store
+pub returns-in-Ok-flush-clause-files : goal.returns-in-Ok-flush-clause-files
+returns-in-Ok-flush-clause-files g c = rotated_files g.S.Store.tells g.S.Store.world c.in-Ok.sealed (Ok c.in-Ok-flush.flushed) (tree_of c.args.self.now) (tree_of c.rotate_memtable.new.self) (tree_of c.flush.new.self) c.in-Ok.ensures.ok c.in-Ok.ensures.store c.in-Ok-flush.ensures.files

@@ -1,13 +1,12 @@
-use Rattle.std.proofs.Common.{◌≡◌, ◌⊎◌, ⊎_elim, ◌<◌, ◌^◌, false, map, Result, Ok, Err, IsErrOf, refl, sym, ap, ◌∙◌, subst}
+use Rattle.std.proofs.Common.{◌≡◌, ◌⊎◌, ⊎_elim, ◌<◌, ◌^◌, false, Result, Ok, Err, refl, sym, ap, ◌∙◌, subst, rules}
 use Rattle.std.proofs.lemmas.Result.{err_from_is_err_and}
 use Rattle.lsm_below.specs.declared.error.Error.{Error}
-use Rattle.lsm_below.specs.declared.error.Error.TheVariants.{OutOfNumbers, TooManyRuns, Unrecoverable}
+use Rattle.lsm_below.specs.declared.error.Error.TheVariants.{Unrecoverable}
 use Rattle.lsm_flush.specs.Jobs.{SeenJob}
 use Rattle.lsm_flush.specs.declared.jobs.Registered.{Registered}
 use Rattle.lsm_commit.specs.Foreign.{AtRest}
 use Rattle.lsm_state.specs.Core.{Core}
-use Rattle.lsm_state.specs.Cleaning.{RemovesTables}
-use Rattle.lsm_state.specs.Flushes.{spent, IsCurrent}
+use Rattle.lsm_state.specs.Flushes.{spent}
 use Rattle.lsm_state.specs.Commits.{UpholdsFiles, Upholds}
 use Rattle.lsm_state.proofs.Registering.{spent_upholds}
 use Rattle.lsm_logged.specs.Keeping.{SeenLogged}
@@ -15,7 +14,7 @@ use Rattle.lsm_logged.specs.Removing.{KeepsKnown}
 use Rattle.lsm_logged.specs.Flushing.{RemovesBehind}
 use Rattle.lsm_logged.specs.Acting.{RegistersAct}
 use Rattle.lsm_logged.proofs.RegisterActs.{spent_acts, refused_acts, registered_acts}
-use Rattle.lsm_logged.proofs.Gone.{gone_behind}
+use Rattle.lsm_logged.proofs.Gone.{gone_behind, cleaned_cause}
 use Rattle.lsm_logged.proofs.Known.{known_still, leaves_logged, all_left, gone_left}
 use Rattle.lsm_logged.proofs.Removals.{none_behind, passes_alone, none_alone, leaves_behind}
 use Rattle.lsm_logged.proofs.Seen.{logged_with}
@@ -132,33 +131,32 @@ returns-clause-passed_are_gone g c tells installed cleaned =
     let i = c.self.inside in
     gone_left g.S.Store.world i.tree c.register_tables.new.self.core i.numbers.items i.doubted c.clean_log.new.self c.args.self.now c.self.view_is c.clean_log.ensures.cleans.core (c.clean_log.ensures.gone tells installed cleaned)
 
-pub returns-then-self-clause-refused : goal.returns-then-self-clause-refused
-returns-then-self-clause-refused g c tells current = ⊎_elim (λ h. cc h) (λ h. cc h)
+pub returns-then-self-clause-files : goal.returns-then-self-clause-files
+returns-then-self-clause-files g c = record {
+  causes = search rules;
+  gone = search rules;
+  rests = tt;
+  refused = λ tells current. ⊎_elim (λ h. cc h) (λ h. cc h);
+  no_call = search rules;
+}
 
-pub returns-in_err-registered-clause-refused : goal.returns-in_err-registered-clause-refused
-returns-in_err-registered-clause-refused g c tells =
+pub returns-in_err-registered-clause-files : goal.returns-in_err-registered-clause-files
+returns-in_err-registered-clause-files g c =
+    let told = err_from_is_err_and c.from_residual.result c.from_residual.ensures.1 in
+    rw (← c.self.view_is, told.1, told.2) c.in_err-registered.ensures.files
+
+pub returns-clause-files : goal.returns-clause-files
+returns-clause-files g c =
     let w = g.S.Store.world in
     let i = c.self.inside in
-    let new = c.register_tables.new.self in
-    let job = c.args.job in
-    let ids = map (λ t. t.id) job.tables in
-    let old = logged_with i.tree i.numbers.items i.doubted in
-    let told = err_from_is_err_and c.from_residual.result c.from_residual.ensures.1 in
-    subst (λ (t : SeenLogged g.row.S.Denot). IsCurrent job t.core → IsErrOf c.from_residual.result OutOfNumbers ⊎ IsErrOf c.from_residual.result TooManyRuns → RemovesTables ids (w t.store) (w new.store)) c.self.view_is
-    (subst (λ (r : Result Registered Error). IsCurrent job old.core → IsErrOf r OutOfNumbers ⊎ IsErrOf r TooManyRuns → RemovesTables ids (w old.store) (w new.store)) (sym (told.1 ∙ ap (λ (x : Error). Err x) told.2)) (c.in_err-registered.ensures.refused tells))
-
-pub returns-clause-refused : goal.returns-clause-refused
-returns-clause-refused g c tells current = ⊎_elim (λ h. cc h) (λ h. cc h)
-
-pub returns-clause-gone : goal.returns-clause-gone
-returns-clause-gone g c tells installed cleaned =
-    let i = c.self.inside in
+    let mid = c.register_tables.new.self in
+    let files = c.in_ok-registered.ensures.files in
     let cleans = c.clean_log.ensures.cleans in
-    let left = c.in_ok-registered.ensures.gone tells (sym cleans.installed ∙ installed) (cleans.cleaned cleaned) in
-    gone_behind g.S.Store.world i.tree c.register_tables.new.self i.numbers.items i.doubted c.clean_log.new.self c.args.self.now c.self.view_is cleans.core (c.clean_log.ensures.others tells) left
-
-pub returns-clause-rests : goal.returns-clause-rests
-returns-clause-rests g c isnt =
-    let stale = sym c.clean_log.ensures.cleans.installed ∙ isnt in
     let store = λ (t : SeenLogged g.row.S.Denot). t.store in
-    ap store (c.clean_log.ensures.still stale) ∙ c.in_ok-registered.ensures.rests stale ∙ ap store c.self.view_is
+    record {
+      causes = rw (← c.self.view_is) (cleaned_cause c.in_ok-registered.registered c.clean_log.result (w i.tree.store) (w mid.store) (w c.clean_log.new.self.store) files.causes c.clean_log.ensures.causes);
+      gone = λ tells installed cleaned. gone_behind w i.tree mid i.numbers.items i.doubted c.clean_log.new.self c.args.self.now c.self.view_is cleans.core (c.clean_log.ensures.others tells) (files.gone tells (sym cleans.installed ∙ installed) (cleans.cleaned cleaned));
+      rests = λ isnt. let stale = sym cleans.installed ∙ isnt in ap store (c.clean_log.ensures.still stale) ∙ files.rests stale ∙ ap store c.self.view_is;
+      refused = λ tells current. ⊎_elim (λ h. cc h) (λ h. cc h);
+      no_call = search rules;
+    }

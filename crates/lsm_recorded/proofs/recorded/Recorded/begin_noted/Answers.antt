@@ -1,7 +1,5 @@
-use Rattle.std.proofs.Common.{◌≡◌, ◌∙◌, ◌++◌, Ok, ap, subst}
+use Rattle.std.proofs.Common.{◌∙◌, ◌++◌, ap, subst}
 use Rattle.lsm_versions.specs.Levels.{placed_of}
-use Rattle.lsm_state.specs.declared.compaction.Begun.TheVariants.{Installed}
-use Rattle.lsm_state.specs.Cleaning.{LeavesNoFiles}
 use Rattle.lsm_recorded.specs.Recorded.{StaysBehind}
 use Rattle.lsm_recorded.proofs.CompactingLemmas.{begin_recorded}
 use Rattle.lsm_recorded.proofs.recorded.Recorded.begin_noted.Goals as goal
@@ -18,13 +16,5 @@ returns-clause-views g c =
     let begun = c.begin_chosen-begun in
     subst (λ t. StaysBehind t.journal c.put_entries.new.journal.items t.tree.core begun.new.tree.core) c.self.view_is ((begin_recorded (placed_of i.opened.levels) i.least i.marks c.reads_are_sound.ensures i.floor c.put_entries.new.floor i.core.core begun.new.tree.core i.journal.items c.put_entries.new.journal.items c.noted_compactions_keep_reads.ensures c.args.chosen.answer c.args.options begun.result.0 begun.result.1.items begun.ensures.begins (c.put_entries.ensures.noted.behind ∙ ap (λ j. j ++ begun.result.1.items) c.make_copies-made.ensures.journal) c.put_entries.ensures.floor c.self.invariant).1)
 
-pub returns-in_default-clause-gone : goal.returns-in_default-clause-gone
-returns-in_default-clause-gone g c tells done = absurd (cc done)
-
-pub returns-clause-gone : goal.returns-clause-gone
-returns-clause-gone g c tells =
-    let w = g.S.Store.world in
-    subst (λ t. c.begin_chosen-begun.result.0 ≡ Ok Installed → LeavesNoFiles (w c.begin_chosen-begun.new.tree.store) t.tree.core.history c.begin_chosen-begun.new.tree.core.history) c.self.view_is (c.begin_chosen-begun.ensures.gone tells)
-
-pub returns-clause-rests : goal.returns-clause-rests
-returns-clause-rests g c = rw (← c.self.view_is) c.begin_chosen-begun.ensures.rests
+pub returns-clause-files : goal.returns-clause-files
+returns-clause-files g c = rw (← c.self.view_is) c.begin_chosen-begun.ensures.files

@@ -1,7 +1,7 @@
-use Rattle.std.proofs.Common.{inl, arith, ap}
+use Rattle.std.proofs.Common.{refl}
+use Rattle.lsm_state.proofs.Files.{refused_compacts}
+use Rattle.lsm_state.proofs.Causing.{no_memory}
 use Rattle.lsm_recorded.proofs.recorded.Recorded.do_compaction.Goals as goal
 
-pub returns-in-Err-clause-refused : goal.returns-in-Err-clause-refused
-returns-in-Err-clause-refused g c tells small known before =
-    let same = ap (λ t. t.tree.core.next_table) c.self.view_is in
-    inl (λ i from below. absurd (omega (arith, same, from, below)))
+pub returns-in-Err-clause-files : goal.returns-in-Err-clause-files
+returns-in-Err-clause-files g c = refused_compacts g.S.Store.tells g.S.Store.world _ c.args.self.now.tree c.args.self.now.tree no_memory refl refl

@@ -1,4 +1,3 @@
-use Rattle.lsm_state.specs.Cleaning.{RemovesRefused}
 use Rattle.std.proofs.Common.{◌∙◌, ◌++◌, ap, sym, subst}
 use Rattle.lsm_versions.specs.Levels.{placed_of}
 use Rattle.lsm_recorded.specs.Recorded.{IsRecorded, Stays}
@@ -37,11 +36,5 @@ returns-clause-views g c =
     let all = (finish_recorded (placed_of i.opened.levels) i.least i.marks c.reads_are_sound.ensures i.floor c.put_entries.new.floor i.core.core ended.new.tree.core i.journal.items c.put_entries.new.journal.items c.noted_compactions_keep_reads.ensures c.args.merged.job ended.result.0 es ended.ensures.ends told c.put_entries.ensures.floor c.self.invariant).1 in
     subst (λ t. Stays t.tree.core ended.new.tree.core) c.self.view_is all
 
-pub returns-clause-refused : goal.returns-clause-refused
-returns-clause-refused g c tells =
-    let w = g.S.Store.world in
-    let ended = c.finish_noting-entries in
-    subst (λ t. RemovesRefused ended.result.0 t.tree.core ended.new.tree.core (w t.tree.store) (w ended.new.tree.store)) c.self.view_is (ended.ensures.refused tells)
-
-pub returns-clause-rests : goal.returns-clause-rests
-returns-clause-rests g c = rw (← c.self.view_is) c.finish_noting-entries.ensures.rests
+pub returns-clause-files : goal.returns-clause-files
+returns-clause-files g c = rw (← c.self.view_is) c.finish_noting-entries.ensures.files

@@ -25,8 +25,5 @@ returns-clause-views g c =
     let flushed = c.flush_noting-entries in
     subst (λ t. Stays t.tree.core flushed.new.tree.core) c.self.view_is ((flush_recorded (placed_of i.opened.levels) i.least i.marks c.reads_are_sound.ensures c.flushes_keep_reads.ensures i.floor c.put_entries.new.floor i.journal.items c.put_entries.new.journal.items flushed.result.1.items (c.put_entries.ensures.noted.behind ∙ ap (λ j. j ++ flushed.result.1.items) c.beside_copies-both.ensures.journal) c.put_entries.ensures.floor c.args.watermark flushed.result.0 i.core.core flushed.new.tree.core flushed.ensures.flushes c.self.invariant).1)
 
-pub returns-clause-refused : goal.returns-clause-refused
-returns-clause-refused g c = rw (← c.self.view_is) c.flush_noting-entries.ensures.refused
-
-pub returns-clause-rests : goal.returns-clause-rests
-returns-clause-rests g c = rw (← c.self.view_is) c.flush_noting-entries.ensures.rests
+pub returns-clause-files : goal.returns-clause-files
+returns-clause-files g c = rw (← c.self.view_is) c.flush_noting-entries.ensures.files

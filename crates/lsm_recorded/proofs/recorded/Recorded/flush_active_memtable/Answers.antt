@@ -1,7 +1,5 @@
-use Rattle.std.proofs.Common.{◌≡◌, ◌<◌, ◌^◌, ◌++◌, IfErr, ap, ◌∙◌, subst}
-use Rattle.lsm_below.specs.declared.error.Error.TheVariants.{CommitUnknown}
+use Rattle.std.proofs.Common.{◌++◌, ap, ◌∙◌, subst}
 use Rattle.lsm_versions.specs.Levels.{placed_of}
-use Rattle.lsm_state.specs.Cleaning.{RemovesDrawn}
 use Rattle.lsm_state.specs.WholeFlushes.{FlushesActive}
 use Rattle.lsm_recorded.specs.Passes.{Notes}
 use Rattle.lsm_recorded.specs.Recorded.{Stays}
@@ -34,11 +32,5 @@ returns-clause-views g c =
     let flushed = c.flush_active_noting-entries in
     subst (λ t. Stays t.tree.core flushed.new.tree.core) c.self.view_is ((active_recorded (placed_of i.opened.levels) i.least i.marks c.reads_are_sound.ensures c.flushes_keep_reads.ensures i.floor c.put_entries.new.floor i.journal.items c.put_entries.new.journal.items flushed.result.1.items (c.put_entries.ensures.noted.behind ∙ ap (λ j. j ++ flushed.result.1.items) c.beside_copies-both.ensures.journal) c.put_entries.ensures.floor c.args.watermark flushed.result.0 i.core.core flushed.new.tree.core flushed.ensures.flushes c.self.invariant).1)
 
-pub returns-clause-refused : goal.returns-clause-refused
-returns-clause-refused g c tells =
-    let w = g.S.Store.world in
-    let flushed = c.flush_active_noting-entries in
-    subst (λ t. t.tree.core.next_table < 2 ^ 63 → IfErr flushed.result.0 (λ e. (e.0 ≡ CommitUnknown → ⊥) → RemovesDrawn t.tree.core.next_table flushed.new.tree.core.next_table (w t.tree.store) (w flushed.new.tree.store))) c.self.view_is (flushed.ensures.refused tells)
-
-pub returns-clause-rests : goal.returns-clause-rests
-returns-clause-rests g c = rw (← c.self.view_is) c.flush_active_noting-entries.ensures.rests
+pub returns-clause-files : goal.returns-clause-files
+returns-clause-files g c = rw (← c.self.view_is) c.flush_active_noting-entries.ensures.files

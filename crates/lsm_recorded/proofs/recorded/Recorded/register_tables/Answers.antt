@@ -29,5 +29,5 @@ returns-clause-views g c =
     let registered = c.register_noting-entries in
     subst (λ t. Stays t.tree.core registered.new.tree.core) c.self.view_is ((register_recorded (placed_of i.opened.levels) i.least i.marks c.reads_are_sound.ensures c.flushes_keep_reads.ensures i.floor c.put_entries.new.floor i.journal.items c.put_entries.new.journal.items registered.result.1.items (c.put_entries.ensures.noted.behind ∙ ap (λ j. j ++ registered.result.1.items) c.beside_copies-both.ensures.journal) c.put_entries.ensures.floor c.args.job registered.result.0 i.core.core registered.new.tree.core registered.ensures.registers c.self.invariant).1)
 
-pub returns-clause-rests : goal.returns-clause-rests
-returns-clause-rests g c = rw (← c.self.view_is) c.register_noting-entries.ensures.rests
+pub returns-clause-files : goal.returns-clause-files
+returns-clause-files g c = rw (← c.self.view_is) c.register_noting-entries.ensures.files

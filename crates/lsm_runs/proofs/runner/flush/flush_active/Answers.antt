@@ -10,4 +10,4 @@ returns-clause-ok g c =
 pub returns-clause-causes : goal.returns-clause-causes
 returns-clause-causes g c =
     let flushed = c.flush_active_noting-entries in
-    rw c.of_active.ensures (active_cause flushed.result.1.items flushed.result.0 _ _ flushed.ensures.causes)
+    rw c.of_active.ensures (active_cause flushed.result.1.items flushed.result.0 _ _ flushed.ensures.files.causes)

@@ -12,4 +12,4 @@ returns-in-Ok-clause-ok g c =
 pub returns-in-Ok-clause-causes : goal.returns-in-Ok-clause-causes
 returns-in-Ok-clause-causes g c =
     let registered = c.register_noting-entries in
-    rw c.of_registered.ensures (registered_cause registered.result.1.items registered.result.0 _ _ registered.ensures.causes)
+    rw c.of_registered.ensures (registered_cause registered.result.1.items registered.result.0 _ _ registered.ensures.files.causes)

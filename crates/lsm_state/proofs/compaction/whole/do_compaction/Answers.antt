@@ -1,7 +1,6 @@
 use Rattle.lsm_state.proofs.OwnInputs.{compaction_here}
-use Rattle.lsm_state.proofs.Causing.{follows_cause}
-use Rattle.std.proofs.Common.{ap}
-use Rattle.lsm_state.proofs.Wholes.{whole_upholds, whole_leaves, compaction_draws, refused_behind, rests_behind}
+use Rattle.lsm_state.proofs.Wholes.{whole_upholds}
+use Rattle.lsm_state.proofs.Files.{whole_files}
 use Rattle.lsm_state.proofs.compaction.whole.do_compaction.Goals as goal
 
 pub returns-clause-upholds : goal.returns-clause-upholds
@@ -12,36 +11,10 @@ returns-clause-upholds g c tells =
     let new = c.follow.new.self in
     whole_upholds (w old.store) (w mid.store) (w new.store) _ _ c.args.options c.begin_compaction-begun.result c.follow.result old.core mid.core new.core c.begin_compaction-begun.ensures.begins c.follow.ensures.follows (c.begin_compaction-begun.ensures.upholds tells) (c.follow.ensures.upholds tells)
 
-pub returns-clause-causes : goal.returns-clause-causes
-returns-clause-causes g c =
-    let w = g.S.Store.world in
-    let mid = c.begin_compaction-begun.new.self in
-    let new = c.follow.new.self in
-    follows_cause (w c.args.tree.now.store) (w mid.store) (w new.store) c.begin_compaction-begun.result c.follow.result mid.core new.core c.follow.ensures.follows c.begin_compaction-begun.ensures.causes c.follow.ensures.causes
-
-pub returns-clause-gone : goal.returns-clause-gone
-returns-clause-gone g c tells done =
-    let w = g.S.Store.world in
-    let mid = c.begin_compaction-begun.new.self in
-    let new = c.follow.new.self in
+pub returns-clause-files : goal.returns-clause-files
+returns-clause-files g c =
     let begun = c.begin_compaction-begun in
-    whole_leaves (w mid.store) (w new.store) _ _ c.args.options begun.result c.follow.result c.args.tree.now.core mid.core new.core begun.ensures.begins c.follow.ensures.follows (begun.ensures.gone tells) (c.follow.ensures.gone tells) (λ is. ap w (c.follow.ensures.done is)) done
-
-pub returns-clause-refused : goal.returns-clause-refused
-returns-clause-refused g c tells =
-    let w = g.S.Store.world in
-    let old = c.args.tree.now in
-    let begun = c.begin_compaction-begun in
-    let mid = begun.new.self in
-    let new = c.follow.new.self in
-    refused_behind (w old.store) (w mid.store) (w new.store) begun.result c.follow.result old.core mid.core new.core begun.ensures.causes.rises (compaction_draws _ _ c.args.options begun.result old.core mid.core begun.ensures.begins) c.follow.ensures.follows (c.follow.ensures.refused tells)
-
-pub returns-clause-rests : goal.returns-clause-rests
-returns-clause-rests g c =
-    let begun = c.begin_compaction-begun in
-    let mid = begun.new.self in
-    let new = c.follow.new.self in
-    rests_behind begun.result c.follow.result c.args.tree.now.store mid.store new.store mid.core new.core c.follow.ensures.follows begun.ensures.rests c.follow.ensures.rests
+    whole_files g.S.Store.tells g.S.Store.world _ _ c.args.options begun.result c.follow.result c.args.tree.now begun.new.self c.follow.new.self begun.ensures.begins c.follow.ensures.follows begun.ensures.files c.follow.ensures.files
 
 pub follow-requires : goal.follow-requires
 follow-requires g c = compaction_here _ _ c.args.options c.begin_compaction-begun.result c.args.tree.now.core c.begin_compaction-begun.new.self.core c.facts.ensures c.begin_compaction-begun.ensures.begins

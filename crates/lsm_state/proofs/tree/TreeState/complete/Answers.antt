@@ -1,4 +1,4 @@
-use Rattle.std.proofs.Common.{sym, subst}
+use Rattle.std.proofs.Common.{sym, subst, rules}
 use Rattle.lsm_compaction.specs.Merges.{SeenCompaction}
 use Rattle.lsm_state.specs.Cleaning.{none_drawn}
 use Rattle.lsm_state.specs.OwnInputs.{HasOwnInputs}
@@ -8,9 +8,15 @@ use Rattle.lsm_state.proofs.tree.TreeState.complete.Goals as goal
 pub finish_own-requires : goal.finish_own-requires
 finish_own-requires g c = subst (λ (job : SeenCompaction). HasOwnInputs job c.args.self.now.core) (sym c.in-Ok.ensures.job) c.requires
 
-pub returns-in-Err-clause-refused : goal.returns-in-Err-clause-refused
-returns-in-Err-clause-refused g c tells small known before =
+pub returns-in-Err-clause-files : goal.returns-in-Err-clause-files
+returns-in-Err-clause-files g c =
     let w = g.S.Store.world in
     let old = c.args.self.now in
     let new = c.abandon_compaction.new.self in
-    none_drawn old.core.next_table new.core.next_table (w old.store) (w new.store) (spending_draws c.in-Err.job old.core new.core c.abandon_compaction.ensures.spends)
+    record {
+      causes = search rules;
+      gone = search rules;
+      rests = tt;
+      refused = λ tells small known before. none_drawn old.core.next_table new.core.next_table (w old.store) (w new.store) (spending_draws c.in-Err.job old.core new.core c.abandon_compaction.ensures.spends);
+      no_call = search rules;
+    }

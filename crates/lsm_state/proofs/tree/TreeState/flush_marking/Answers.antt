@@ -5,7 +5,7 @@ use Rattle.lsm_state.specs.Kept.{KeepsTables}
 use Rattle.lsm_state.specs.Cleaning.{RemovesDrawn, LeavesNoVersions}
 use Rattle.lsm_state.specs.WholeFlushes.{Flushes, MarksFlush}
 use Rattle.lsm_state.proofs.Installing.{upholds_join}
-use Rattle.lsm_state.proofs.Causing.{removes_then}
+use Rattle.lsm_state.proofs.Causing.{removes_drawn}
 use Rattle.std.proofs.Common.{ap, subst, Ok}
 use Rattle.std.proofs.lemmas.Result.{err_from_is_err_and}
 use Rattle.lsm_state.specs.Core.{versions_left}
@@ -26,8 +26,8 @@ returns-in_err-written-clause-upholds g c tells =
     let begins = subst (λ o. Begins (Ok o) c.args.self.now.core c.begin_flush.new.self.core) c.in-Some.is c.in_ok-job.ensures.begins in
     upholds_begun c.args.self.now.core c.begin_flush.new.self.core c.in-Some.job begins (g.S.Store.world c.args.self.now.store) (g.S.Store.world c.begin_flush.new.self.store) (g.S.Store.world c.write_job.new.self.store) c.write_job.new.self.core (ap g.S.Store.world c.begin_flush.ensures.store) (c.stays_stored.ensures tells) (c.write_job.ensures.upholds tells)
 
-pub returns-in_err-written-clause-refused : goal.returns-in_err-written-clause-refused
-returns-in_err-written-clause-refused g c tells small =
+pub returns-in_err-written-clause-files : goal.returns-in_err-written-clause-files
+returns-in_err-written-clause-files g c =
     let w = g.S.Store.world in
     let old = c.args.self.now in
     let mid = c.begin_flush.new.self in
@@ -35,8 +35,14 @@ returns-in_err-written-clause-refused g c tells small =
     let begins = subst (λ o. Begins (Ok o) old.core mid.core) c.in-Some.is c.in_ok-job.ensures.begins in
     let same = ap (λ k. k.next_table) (begun_core old.core mid.core c.in-Some.job begins) in
     let p = err_from_is_err_and c.from_residual-in_err-written.result c.from_residual-in_err-written.ensures.1 in
-    let did = subst (λ n. n < 2 ^ 63 → RemovesDrawn n made.core.next_table (w mid.store) (w made.store)) same (c.in_err-written.ensures.refused tells) small in
-    rw (p.1, p.2) (λ isnt. subst (λ z. RemovesDrawn old.core.next_table made.core.next_table (w z) (w made.store)) c.begin_flush.ensures.store did)
+    let did : g.S.Store.tells → old.core.next_table < 2 ^ 63 → RemovesDrawn old.core.next_table made.core.next_table (w mid.store) (w made.store) = λ tells small. subst (λ n. n < 2 ^ 63 → RemovesDrawn n made.core.next_table (w mid.store) (w made.store)) same (c.in_err-written.ensures.refused tells) small in
+    record {
+      causes = search rules;
+      gone = search rules;
+      rests = search rules;
+      refused = λ tells small. rw (p.1, p.2) (λ isnt. subst (λ z. RemovesDrawn old.core.next_table made.core.next_table (w z) (w made.store)) c.begin_flush.ensures.store (did tells small));
+      no_call = search rules;
+    }
 
 pub remove_drawn-requires : goal.remove_drawn-requires
 remove_drawn-requires g c =
@@ -65,11 +71,17 @@ returns-in-Ok-clause-upholds g c tells =
     let begins = subst (λ o. Begins (Ok o) c.args.self.now.core c.begin_flush.new.self.core) c.in-Some.is c.in_ok-job.ensures.begins in
     upholds_whole c.args.watermark c.args.self.now.core c.begin_flush.new.self.core c.write_job.new.self.core c.in-Some.job c.in_ok-written.written begins c.in_ok-written.ensures.writes (g.S.Store.world c.args.self.now.store) (g.S.Store.world c.begin_flush.new.self.store) (g.S.Store.world c.write_job.new.self.store) (g.S.Store.world c.register.new.self.store) c.register.new.self.core (ap g.S.Store.world c.begin_flush.ensures.store) (c.stays_stored.ensures tells) (c.write_job.ensures.upholds tells) (c.register.ensures.upholds tells)
 
-pub returns-in-Ok-clause-gone : goal.returns-in-Ok-clause-gone
-returns-in-Ok-clause-gone g c tells whole =
+pub returns-in-Ok-clause-files : goal.returns-in-Ok-clause-files
+returns-in-Ok-clause-files g c =
     let begins = subst (λ o. Begins (Ok o) c.args.self.now.core c.begin_flush.new.self.core) c.in-Some.is c.in_ok-job.ensures.begins in
     let done = flushed c.args.watermark c.args.self.now.core c.begin_flush.new.self.core c.write_job.new.self.core c.in-Some.job c.in_ok-written.written begins c.in_ok-written.ensures.writes c.register.new.self.core c.in-Ok.registered c.in-Ok.ensures.registers c.sealed_size-size.result c.sealed_size-size.ensures c.in-Ok.ensures.deeds in
-    subst (λ h. LeavesNoVersions (g.S.Store.world c.register.new.self.store) h c.register.new.self.core.history) (made_history c.args.watermark c.args.self.now.core c.begin_flush.new.self.core c.write_job.new.self.core c.in-Some.job c.in_ok-written.written begins c.in_ok-written.ensures.writes) (c.in-Ok.ensures.gone tells done.installs.installed whole)
+    record {
+      causes = search rules;
+      gone = λ tells whole. subst (λ h. LeavesNoVersions (g.S.Store.world c.register.new.self.store) h c.register.new.self.core.history) (made_history c.args.watermark c.args.self.now.core c.begin_flush.new.self.core c.write_job.new.self.core c.in-Some.job c.in_ok-written.written begins c.in_ok-written.ensures.writes) (c.in-Ok.ensures.gone tells done.installs.installed whole);
+      rests = search rules;
+      refused = search rules;
+      no_call = search rules;
+    }
 
 pub returns-in-Err-CommitUnknown-clause-flushes : goal.returns-in-Err-CommitUnknown-clause-flushes
 returns-in-Err-CommitUnknown-clause-flushes g c =
@@ -96,8 +108,6 @@ returns-in-Err g c =
     let new = c.remove_drawn.new.self in
     let begins = subst (λ o. Begins (Ok o) c.args.self.now.core c.begin_flush.new.self.core) c.in-Some.is c.in_ok-job.ensures.begins in
     let behind = c.remove_drawn.ensures in
-    let first : c.get-first.result ≡ c.args.self.now.core.next_table = c.get-first.ensures ∙ ap (λ t. t.core.next_table) c.self.view_is in
-    let next : reg.core.next_table ≡ new.core.next_table = sym (ap (λ k. k.next_table) behind.core) in
     let both = causes_then _ _ (BlamesStore c.in-Err.error) (w c.begin_flush.new.self.store) (w c.write_job.new.self.store) (w reg.store) c.write_job.ensures.causes c.in-Err.ensures.causes (λ blamed. inr blamed) in
     let all = subst (λ z. HasCause (BlamesStore c.in-Err.error) (w z) (w reg.store)) c.begin_flush.ensures.store both in
     record {
@@ -105,11 +115,11 @@ returns-in-Err g c =
       marks = subst (MarksFlush c.args.watermark true (Err c.in-Err.error) old.core) (sym behind.core) (marks_refused c.args.watermark c.args.self.now.core c.begin_flush.new.self.core c.write_job.new.self.core c.in-Some.job c.in_ok-written.written begins c.in_ok-written.ensures.writes c.register.new.self.core c.in-Err.error c.in-Err.ensures.registers);
       unmarked = λ h. absurd (cc h);
       upholds = λ tells. upholds_join (w old.store) (w reg.store) (w new.store) old.core reg.core new.core (ap versions_left behind.core) (upholds_whole c.args.watermark c.args.self.now.core c.begin_flush.new.self.core c.write_job.new.self.core c.in-Some.job c.in_ok-written.written begins c.in_ok-written.ensures.writes (g.S.Store.world c.args.self.now.store) (g.S.Store.world c.begin_flush.new.self.store) (g.S.Store.world c.write_job.new.self.store) (g.S.Store.world c.register.new.self.store) c.register.new.self.core (ap g.S.Store.world c.begin_flush.ensures.store) (c.stays_stored.ensures tells) (c.write_job.ensures.upholds tells) (c.register.ensures.upholds tells)) (behind.upholds tells);
-      causes = causes_then _ ⊥ _ (w old.store) (w reg.store) (w new.store) all behind.causes (λ blamed. inl blamed);
-      gone = λ tells. tt;
-      refused = λ tells small isnt.
-          let gone = subst (λ n. n < 2 ^ 63 → RemovesDrawn n reg.core.next_table (w reg.store) (w new.store)) first (behind.gone tells) small in
-          removes_then old.core.next_table new.core.next_table (w old.store) (w reg.store) (w new.store) all.rises (subst (λ n. RemovesDrawn old.core.next_table n (w reg.store) (w new.store)) next gone);
-      no_call = λ some. let z = subst IsSome (certain old.core c.begin_flush.new.self.core c.in-Some.job begins) some in absurd (cc z);
-      rests = tt;
+      files = record {
+        causes = causes_then _ ⊥ _ (w old.store) (w reg.store) (w new.store) all behind.causes (λ blamed. inl blamed);
+        gone = λ tells. tt;
+        rests = tt;
+        refused = λ tells small isnt. removes_drawn w c.get-first.result old reg new (c.get-first.ensures ∙ ap (λ t. t.core.next_table) c.self.view_is) behind.core all.rises (behind.gone tells) small;
+        no_call = λ some. let z = subst IsSome (certain old.core c.begin_flush.new.self.core c.in-Some.job begins) some in absurd (cc z);
+      };
     }

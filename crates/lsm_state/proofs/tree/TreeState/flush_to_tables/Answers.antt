@@ -1,14 +1,11 @@
-use Rattle.std.proofs.Common.{◌≡◌, ◌<◌, ◌^◌}
-use Rattle.lsm_state.specs.Core.{versions_left}
-use Rattle.lsm_state.specs.Cleaning.{RemovesDrawn}
-use Rattle.lsm_state.proofs.Installing.{upholds_join}
-use Rattle.lsm_state.proofs.Causing.{write_causes, removes_then}
-use Rattle.std.proofs.Common.{◌++◌, ap, sym, subst, ◌∙◌}
+use Rattle.std.proofs.Common.{◌++◌, ap, sym, subst, ◌∙◌, rules}
 use Rattle.lsm_versions.specs.Levels.{all_of, HasOwnIds}
 use Rattle.lsm_commit.specs.Stored.{AreOnDisk}
 use Rattle.lsm_commit.specs.Writing.{HoldEntries}
-use Rattle.lsm_state.specs.Core.{Core}
+use Rattle.lsm_state.specs.Core.{Core, versions_left}
 use Rattle.lsm_state.specs.Commits.{Upholds}
+use Rattle.lsm_state.proofs.Causing.{write_causes, removes_drawn}
+use Rattle.lsm_state.proofs.Installing.{upholds_join}
 use Rattle.lsm_state.proofs.Upholding.{upheld_at}
 use Rattle.lsm_state.proofs.Writing.{tables_noted, noted_upholds}
 use Rattle.lsm_state.proofs.tree.TreeState.flush_to_tables.Goals as goal
@@ -46,17 +43,17 @@ returns-in-Err-clause-upholds g c tells =
     let new = c.remove_drawn.new.self in
     upholds_join (w old.store) (w mid.store) (w new.store) old.core mid.core new.core (ap versions_left c.remove_drawn.ensures.core) (c.write_kept.ensures.upholds tells) (c.remove_drawn.ensures.upholds tells)
 
-pub returns-in-Err-clause-refused : goal.returns-in-Err-clause-refused
-returns-in-Err-clause-refused g c tells small =
+pub returns-in-Err-clause-files : goal.returns-in-Err-clause-files
+returns-in-Err-clause-files g c =
     let w = g.S.Store.world in
-    let old = c.args.self.now in
     let mid = c.write_kept.new.self in
-    let new = c.remove_drawn.new.self in
-    let first : c.get-first.result ≡ old.core.next_table = c.get-first.ensures ∙ ap (λ t. t.core.next_table) c.self.view_is in
-    let gone = subst (λ n. n < 2 ^ 63 → RemovesDrawn n mid.core.next_table (w mid.store) (w new.store)) first (c.remove_drawn.ensures.gone tells) small in
-    let next : mid.core.next_table ≡ new.core.next_table = sym (ap (λ k. k.next_table) c.remove_drawn.ensures.core) in
-    let did = write_causes (w old.store) (w mid.store) c.write_kept.result c.write_kept.ensures.only c.write_kept.ensures.counts in
-    removes_then old.core.next_table new.core.next_table (w old.store) (w mid.store) (w new.store) did.rises (subst (λ n. RemovesDrawn old.core.next_table n (w mid.store) (w new.store)) next gone)
+    let behind = c.remove_drawn.ensures in
+    let did = write_causes (w c.args.self.now.store) (w mid.store) c.write_kept.result c.write_kept.ensures.only c.write_kept.ensures.counts in
+    record {
+      causes = search rules;
+      refused = λ tells small. removes_drawn w c.get-first.result c.args.self.now mid c.remove_drawn.new.self (c.get-first.ensures ∙ ap (λ t. t.core.next_table) c.self.view_is) behind.core did.rises (behind.gone tells) small;
+      no_call = search rules;
+    }
 
 pub returns-in_default-clause-upholds : goal.returns-in_default-clause-upholds
 returns-in_default-clause-upholds g c tells =
@@ -66,14 +63,14 @@ returns-in_default-clause-upholds g c tells =
     let new = c.remove_drawn-in_default.new.self in
     upholds_join (w old.store) (w mid.store) (w new.store) old.core mid.core new.core (ap versions_left c.remove_drawn-in_default.ensures.core) (c.write_kept.ensures.upholds tells) (c.remove_drawn-in_default.ensures.upholds tells)
 
-pub returns-in_default-clause-refused : goal.returns-in_default-clause-refused
-returns-in_default-clause-refused g c tells small =
+pub returns-in_default-clause-files : goal.returns-in_default-clause-files
+returns-in_default-clause-files g c =
     let w = g.S.Store.world in
-    let old = c.args.self.now in
     let mid = c.write_kept.new.self in
-    let new = c.remove_drawn-in_default.new.self in
-    let first : c.get-first.result ≡ old.core.next_table = c.get-first.ensures ∙ ap (λ t. t.core.next_table) c.self.view_is in
-    let gone = subst (λ n. n < 2 ^ 63 → RemovesDrawn n mid.core.next_table (w mid.store) (w new.store)) first (c.remove_drawn-in_default.ensures.gone tells) small in
-    let next : mid.core.next_table ≡ new.core.next_table = sym (ap (λ k. k.next_table) c.remove_drawn-in_default.ensures.core) in
-    let did = write_causes (w old.store) (w mid.store) c.write_kept.result c.write_kept.ensures.only c.write_kept.ensures.counts in
-    removes_then old.core.next_table new.core.next_table (w old.store) (w mid.store) (w new.store) did.rises (subst (λ n. RemovesDrawn old.core.next_table n (w mid.store) (w new.store)) next gone)
+    let behind = c.remove_drawn-in_default.ensures in
+    let did = write_causes (w c.args.self.now.store) (w mid.store) c.write_kept.result c.write_kept.ensures.only c.write_kept.ensures.counts in
+    record {
+      causes = search rules;
+      refused = λ tells small. removes_drawn w c.get-first.result c.args.self.now mid c.remove_drawn-in_default.new.self (c.get-first.ensures ∙ ap (λ t. t.core.next_table) c.self.view_is) behind.core did.rises (behind.gone tells) small;
+      no_call = search rules;
+    }

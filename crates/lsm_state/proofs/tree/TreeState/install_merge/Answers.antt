@@ -1,10 +1,9 @@
-use Rattle.std.proofs.Common.{◌≡◌, ◌<◌, ◌^◌, Err, inl, ap, sym, subst, ◌∙◌}
+use Rattle.std.proofs.Common.{Err, inl, ap, sym, subst, ◌∙◌}
 use Rattle.lsm_commit.specs.Causes.{causes_then}
 use Rattle.lsm_state.specs.Core.{versions_left}
-use Rattle.lsm_state.specs.Cleaning.{RemovesDrawn}
 use Rattle.lsm_state.specs.Compactions.{InstallsMerge}
 use Rattle.lsm_state.proofs.Installing.{upholds_join}
-use Rattle.lsm_state.proofs.Causing.{removes_then}
+use Rattle.lsm_state.proofs.Causing.{removes_drawn}
 use Rattle.lsm_state.proofs.tree.TreeState.install_merge.Goals as goal
 
 pub returns-in-Err : goal.returns-in-Err
@@ -15,8 +14,6 @@ returns-in-Err g c =
     let new = c.remove_drawn.new.self in
     let did = c.in-Err.ensures in
     let behind = c.remove_drawn.ensures in
-    let first : c.get-first.result ≡ old.core.next_table = c.get-first.ensures ∙ ap (λ t. t.core.next_table) c.self.view_is in
-    let next : mid.core.next_table ≡ new.core.next_table = sym (ap (λ k. k.next_table) behind.core) in
     record {
       installs = subst (InstallsMerge c.args.merged.now.job (Err c.in-Err.error) old.core) (sym behind.core) did.installs;
       done = tt;
@@ -24,7 +21,5 @@ returns-in-Err g c =
       causes = causes_then _ ⊥ _ (w old.store) (w mid.store) (w new.store) did.causes behind.causes (λ blamed. inl blamed);
       gone = λ tells. tt;
       rests = tt;
-      refused = λ tells small known before.
-          let gone = subst (λ n. n < 2 ^ 63 → RemovesDrawn n mid.core.next_table (w mid.store) (w new.store)) first (behind.gone tells) small in
-          removes_then old.core.next_table new.core.next_table (w old.store) (w mid.store) (w new.store) did.causes.rises (subst (λ n. RemovesDrawn old.core.next_table n (w mid.store) (w new.store)) next gone);
+      refused = λ tells small known before. removes_drawn w c.get-first.result old mid new (c.get-first.ensures ∙ ap (λ t. t.core.next_table) c.self.view_is) behind.core did.causes.rises (behind.gone tells) small;
     }

@@ -29,5 +29,5 @@ returns-in-Err-flush_to_tables-clause-refused g c tells small =
     let mid = c.flush_to_tables.new.self in
     let new = c.abandon_flush-in-Err-flush_to_tables.new.self in
     let behind = c.abandon_flush-in-Err-flush_to_tables.ensures in
-    let did = c.in-Err-flush_to_tables.ensures.refused tells small in
+    let did = c.in-Err-flush_to_tables.ensures.files.refused tells small in
     subst (λ s. RemovesDrawn now.core.next_table new.core.next_table (w now.store) (w s)) (sym behind.store) (subst (λ n. RemovesDrawn now.core.next_table n (w now.store) (w mid.store)) (sym (ap (λ k. k.next_table) behind.core)) did)

@@ -14,4 +14,4 @@ returns g c =
     let told = c.clear-told in
     let w = g.S.Store.world in
     let causes = causes_counted (w c.deref_mut-tree.result.now.store) (w told.new.self.store) told.result (not_after told.result told.ensures.clears.only) told.ensures.counts in
-    (c.deref_mut-tree.result.now, told.new.self, told.ensures.clears, told.ensures.upholds, causes, c.facts.ensures, c.facts-2.ensures)
+    (c.deref_mut-tree.result.now, told.new.self, told.ensures.clears, told.ensures.upholds, record { causes = causes; no_call = told.ensures.no_call }, c.facts.ensures, c.facts-2.ensures)

@@ -11,4 +11,4 @@ returns g c =
     let strategy = c.args.strategy.now in
     let asked = goal.CompactionStrategy-dyn g strategy in
     let moment = c.moment.ensures ∙ ap (λ (t : Seen g.row.S.Denot). t.core.moment) c.tree.ensures in
-    (old, told.new.self, (asks_at (asked.may_choose strategy.1) (asked.may_refuse strategy.1) c.args.watermark c.moment.result told.result old told.new.self moment told.ensures.asks, told.ensures.upholds, record { causes = told.ensures.causes; gone = told.ensures.gone; rests = told.ensures.rests }), c.facts.ensures, c.facts-2.ensures)
+    (old, told.new.self, (asks_at (asked.may_choose strategy.1) (asked.may_refuse strategy.1) c.args.watermark c.moment.result told.result old told.new.self moment told.ensures.asks, told.ensures.upholds, told.ensures.files), c.facts.ensures, c.facts-2.ensures)

@@ -8,4 +8,4 @@ returns g c =
     let told = c.begin_compaction-told in
     let strategy = c.args.strategy.now in
     let asked = goal.CompactionStrategy-dyn g strategy in
-    (old, told.new.self, (begins_at (asked.may_choose strategy.1) (asked.may_refuse strategy.1) c.args.watermark c.moment.result told.result old told.new.self c.args.pass.now told.new.pass c.moment.ensures told.ensures.begins, told.ensures.upholds, record { causes = told.ensures.causes; gone = told.ensures.gone; rests = told.ensures.rests }), c.facts.ensures, c.facts-2.ensures)
+    (old, told.new.self, (begins_at (asked.may_choose strategy.1) (asked.may_refuse strategy.1) c.args.watermark c.moment.result told.result old told.new.self c.args.pass.now told.new.pass c.moment.ensures told.ensures.begins, told.ensures.upholds, told.ensures.files), c.facts.ensures, c.facts-2.ensures)

@@ -9,4 +9,4 @@ returns g c =
     let strategy = c.args.strategy.now in
     let asked = goal.CompactionStrategy-dyn g strategy in
     let begins = begins_on (asked.may_choose strategy.1) (asked.may_refuse strategy.1) c.args.watermark c.moment.result told.result old.core told.new.self.core c.moment.ensures told.ensures.begins in
-    (old, told.new.self, begins, told.ensures.upholds, record { causes = told.ensures.causes; gone = told.ensures.gone; rests = told.ensures.rests }, c.facts.ensures, c.facts-2.ensures)
+    (old, told.new.self, begins, told.ensures.upholds, told.ensures.files, c.facts.ensures, c.facts-2.ensures)
