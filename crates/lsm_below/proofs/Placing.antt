@@ -66,18 +66,18 @@ module _ {T : Type 0} (range : T → Range) where
     | false ↦ IsPermutation-refl (t ∷ x ∷ xs)
   ]
 
+  cut_rest : (r : Range) (x : T) (xs : List T) (at : ℕ) → IsCut (λ y. stands EndsBefore r.min (range y)) (x ∷ xs) (suc at) → IsCut (λ y. stands EndsBefore r.min (range y)) xs at
+  cut_rest r x xs at cut = let m = cut.at_most in record {
+    at_most = omega arith;
+    before = λ j d lt. cut.before (suc j) d (omega arith);
+    behind = λ j d le lt. cut.behind (suc j) d (omega arith) (omega arith);
+  }
+
   -- whether a run is free, by the first table that doesn't end before the range
   pub free_past : (r : Range) (xs : List T) (at : ℕ) → IsCut (λ x. stands EndsBefore r.min (range x)) xs at → length xs ≤ at → is_free range r xs ≡ true
   free_past r [] at cut le = refl
   free_past r (x ∷ xs) zero cut le = absurd (omega arith)
-  free_past r (x ∷ xs) (suc at) cut le = rw (overlap_by (range x) r, cut.before 0 x (omega arith)) (free_past r xs at (rest cut) (omega arith))
-    where
-      rest : IsCut (λ x. stands EndsBefore r.min (range x)) (x ∷ xs) (suc at) → IsCut (λ x. stands EndsBefore r.min (range x)) xs at
-      rest cut = let m = cut.at_most in record {
-        at_most = omega arith;
-        before = λ j d lt. cut.before (suc j) d (omega arith);
-        behind = λ j d le lt. cut.behind (suc j) d (omega arith) (omega arith);
-      }
+  free_past r (x ∷ xs) (suc at) cut le = rw (overlap_by (range x) r, cut.before 0 x (omega arith)) (free_past r xs at (cut_rest r x xs at cut) (omega arith))
 
   all_behind : (r : Range) (xs : List T) → AllByRecursion (λ y. is_below r.max (range y).min ≡ true) xs → is_free range r xs ≡ true
   all_behind r [] h = refl
@@ -92,14 +92,7 @@ module _ {T : Type 0} (range : T → Range) where
         | true ↦ λ q. all_behind r xs (each_weaker (λ y. is_below (range x).max (range y).min ≡ true) (λ y. is_below r.max (range y).min ≡ true) (λ y l. below_trans r.max (range x).max (range y).min (below_then_upto r.max (range x).min (range x).max q (range_ends (range x) run.0)) l) xs run.1)
         | false ↦ λ q. refl
       ] refl)
-  free_at r (x ∷ xs) (suc at) e run cut lt read = rw (overlap_by (range x) r, cut.before 0 x (omega arith)) (free_at r xs at e run.2 (rest cut) (omega arith) read)
-    where
-      rest : IsCut (λ x. stands EndsBefore r.min (range x)) (x ∷ xs) (suc at) → IsCut (λ x. stands EndsBefore r.min (range x)) xs at
-      rest cut = let m = cut.at_most in record {
-        at_most = omega arith;
-        before = λ j d lt. cut.before (suc j) d (omega arith);
-        behind = λ j d le lt. cut.behind (suc j) d (omega arith) (omega arith);
-      }
+  free_at r (x ∷ xs) (suc at) e run cut lt read = rw (overlap_by (range x) r, cut.before 0 x (omega arith)) (free_at r xs at e run.2 (cut_rest r x xs at cut) (omega arith) read)
 
   -- ---- several runs
 

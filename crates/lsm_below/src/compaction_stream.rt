@@ -217,22 +217,14 @@ impl<S: Source> Source for CompactionStream<S> {
         if self.over {
             return None;
         }
-        match next_kept(
+        let told = next_kept(
             &mut self.pending,
             &mut self.source,
             self.watermark,
             self.evict,
-        ) {
-            Some(Ok(entry)) => Some(Ok(entry)),
-            Some(Err(error)) => {
-                self.over = true;
-                Some(Err(error))
-            }
-            None => {
-                self.over = true;
-                None
-            }
-        }
+        );
+        self.over = !matches!(told, Some(Ok(_)));
+        told
     }
 }
 

@@ -83,17 +83,9 @@ impl<S: Source> Source for MvccStream<S> {
         if self.over {
             return None;
         }
-        match next_first(&mut self.pending, &mut self.source) {
-            Some(Ok(entry)) => Some(Ok(entry)),
-            Some(Err(error)) => {
-                self.over = true;
-                Some(Err(error))
-            }
-            None => {
-                self.over = true;
-                None
-            }
-        }
+        let told = next_first(&mut self.pending, &mut self.source);
+        self.over = !matches!(told, Some(Ok(_)));
+        told
     }
 }
 
