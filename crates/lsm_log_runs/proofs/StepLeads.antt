@@ -10,7 +10,7 @@ use Rattle.lsm_model.specs.Journal.{Event, InOrder, next_number}
 use Rattle.lsm_model.specs.Ops.{op_entries, op_value, keys_of, repeats}
 use Rattle.lsm_model.specs.Sound.{Holds}
 use Rattle.lsm_model.specs.Steps.{Action, Marked, Maintained}
-use Rattle.lsm_model.specs.Beginnings.{Saved, FlushedIds}
+use Rattle.lsm_model.specs.Beginnings.{Note, Saved, FlushedIds}
 use Rattle.lsm_model.specs.declared.op.Op.{Op}
 use Rattle.lsm_model.specs.declared.journal.JournalEntry.TheVariants.{Write as Wrote, Install}
 use Rattle.lsm_commit.specs.Foreign.{AtRest}
@@ -23,7 +23,7 @@ use Rattle.lsm_runs.specs.declared.steps.Reply.TheVariants.{Number, Flushed, Cle
 use Rattle.lsm_state.specs.Clearing.{Clears}
 use Rattle.lsm_state.specs.Flushes.{sealed_ids}
 use Rattle.lsm_state.specs.Refusals.{is_great, is_long_key, is_long_value, batch_refusal}
-use Rattle.lsm_logged.specs.Acting.{LeadsBy, LeadsByCommit, LeadsByLost, LeadsByClear, clear_of}
+use Rattle.lsm_logged.specs.Acting.{DrawBelow, LeadsBy, LeadsByCommit, LeadsByLost, LeadsByClear, clear_of}
 use Rattle.lsm_logged.specs.Flushing.{ClearsLogged, IsClearSaid}
 use Rattle.lsm_logged.specs.Keeping.{SeenLogged, is_unsure}
 use Rattle.lsm_logged.specs.Writing.{WritesLogged, WritesAct, Leads, batch_of}
@@ -118,6 +118,10 @@ module _ {S : Type 0} (world : S → World) (reading : Reading) (between : Store
   pub holds : Holds opened (logged image) s.log.tree.state
   holds = holds_on reading.theory image past s.log s.came
 
+  -- one act leads
+  abbrev led_by : (journal : List Event) (notes : List Note) (act : Act) (leads : Leads opened journal notes s.log act old.core new.core new.doubted w w') → old.core.seqno ≤ new.core.seqno → DrawBelow new.core.seqno opened s.log (act ∷ []) leads.log (leads.log, leads.acts, refl) → LeadsBy opened journal notes s.log (act ∷ []) w w' old new
+  led_by journal notes act leads counter drawn = record { log = leads.log; done = (leads.log, leads.acts, refl); is = leads.is; keeps = leads.keeps; counter = counter; drawn = drawn; moments = leads.versions }
+
   -- what leads by acts that write nothing
   module _ (next : LogPast) (acts : List Act) (q : AllByRecursion IsQuiet acts) (l : LeadsBy opened next.journal next.notes s.log acts w w' old new) (reached : next.reached ≡ past.reached) (lost : next.lost ≡ past.lost) (order : InOrder opened next.journal)
       (certain : next.known ≡ true → IsCertain l.log) where
@@ -162,15 +166,7 @@ module _ {S : Type 0} (world : S → World) (reading : Reading) (between : Store
       acked leads drawn n is =
           let next = with_batch (batch_of old.core.seqno ops) past in
           let act : Act = Batched (batch_of old.core.seqno ops) in
-          let l : LeadsBy opened next.journal next.notes s.log (act ∷ []) w w' old new = record {
-            log = leads.log;
-            done = (leads.log, leads.acts, refl);
-            is = leads.is;
-            keeps = leads.keeps;
-            counter = omega (arith, drawn);
-            drawn = (omega (arith, drawn), tt);
-            moments = leads.versions;
-          } in
+          let l = led_by next.journal next.notes act leads (omega (arith, drawn)) (omega (arith, drawn), tt) in
           let journal = ap (λ (t : Saved). t.state.journal) leads.is.tree in
           let written = deeds_run opened s.log.tree leads.log.tree (op_entries old.core.seqno ops) leads.acts.writes in (
             next,
@@ -185,15 +181,7 @@ module _ {S : Type 0} (world : S → World) (reading : Reading) (between : Store
       doubtful leads drawn =
           let next = with_lost (batch_of old.core.seqno ops) past in
           let act : Act = BatchLost (batch_of old.core.seqno ops) in
-          let l : LeadsBy opened next.journal next.notes s.log (act ∷ []) w w' old new = record {
-            log = leads.log;
-            done = (leads.log, leads.acts, refl);
-            is = leads.is;
-            keeps = leads.keeps;
-            counter = omega (arith, drawn);
-            drawn = (omega (arith, drawn), tt);
-            moments = leads.versions;
-          } in
+          let l = led_by next.journal next.notes act leads (omega (arith, drawn)) (omega (arith, drawn), tt) in
           let before = ap (λ (p : LogPast). length p.journal) s.came.past_is in (
             next,
             (old.core.seqno, refl),

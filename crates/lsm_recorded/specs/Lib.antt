@@ -7,6 +7,7 @@ pub mod Marks
 pub mod Raising
 pub mod MarkedTables
 pub mod Recorded
+pub mod Calls
 pub mod Opened
 pub mod Flushing
 pub mod Compacting

@@ -1,22 +1,16 @@
 // A tree with the journal of its calls.
-ghost use Rattle.std.specs.Prelude.{◌≡◌, ◌+◌, ◌<◌, ◌≤◌, ◌∷◌, [], true, false, None, Ok, IfOk, IfErr, IfSome, OnOk, OnErr, IsErrOf, ◌↔◌, ◌⊎◌, map};
-ghost use Rattle.std.specs.FinMap.{get as value_in};
+ghost use Rattle.std.specs.Prelude.{◌≡◌, ◌+◌, ◌<◌, ◌≤◌, [], None, Ok, IfOk, IfErr, IfSome, OnErr, IsErrOf, ◌⊎◌, map};
 ghost use Rattle.lsm_below.specs.Entries.{plain, above};
-ghost use Rattle.lsm_model.specs.Views.{held};
 ghost use Rattle.lsm_model.specs.Beginnings.{shown_by};
-ghost use Rattle.lsm_model.specs.Journal.{is_outside, replay, IsKept, Agrees};
-ghost use Rattle.lsm_model.specs.Ops.{op_entry, op_entries};
-ghost use Rattle.lsm_model.specs.declared.journal.JournalEntry.TheVariants.{Write as WriteEntry, Read as ReadEntry};
-ghost use Rattle.lsm_model.specs.declared.question.Question.TheVariants.{Get as GetQuestion};
-ghost use Rattle.lsm_model.specs.declared.question.Answer.TheVariants.{Found};
+ghost use Rattle.lsm_model.specs.Journal.{replay, Agrees};
+ghost use Rattle.lsm_model.specs.Ops.{op_entry};
 ghost use Rattle.lsm_model.specs.declared.op.Op.TheVariants.{Set, Del, Weak};
 ghost use Rattle.lsm_versions.specs.Levels.{placed_of};
 ghost use Rattle.lsm_commit.specs.Foreign.{AtRest};
 ghost use Rattle.lsm_parts.specs.Held.{first_entries};
-ghost use Rattle.lsm_state.specs.Calls.{Appends, WritesBatch, Gives, IsGetStep, RefusesRead, Rotates};
+ghost use Rattle.lsm_state.specs.Calls.{Gives, IsGetStep, RefusesRead, Rotates};
 ghost use Rattle.lsm_state.specs.Commits.{Upholds};
-ghost use Rattle.lsm_recorded.specs.Order.{keeps_order, batch_keeps_order};
-ghost use Rattle.lsm_recorded.specs.Passes.{Notes};
+ghost use Rattle.lsm_recorded.specs.Calls.{NotesWrite, NotesBatch, NotesGet};
 ghost use Rattle.lsm_recorded.specs.Closing.{ListTogether};
 
 use crate::closed::Closed;
@@ -113,7 +107,7 @@ fn find<S: Store>(
 }
 
 impl<S: Store> Recorded<S> {
-    ghost use Rattle.lsm_recorded.specs.Recorded.{IsKeptRecorded, OwnOr, Stays, StaysTo, RefusesRecorded};
+    ghost use Rattle.lsm_recorded.specs.Recorded.{IsKeptRecorded, Stays};
 
     /// The facts that the type keeps: every super version is ordered, each view equals the replay,
     /// kept snapshots are answered, and each read of the journal agrees with the replay before it;
@@ -161,15 +155,7 @@ impl<S: Store> Recorded<S> {
         key: &[u8],
         snapshot: SeqNo,
     ) -> Result<Option<UserValue>, Error>
-        ensures core { IfOk result (λ v. Gives self.old.tree.core key.now snapshot v) }
-        ensures replay { IfOk result (λ v. is_outside key.now snapshot self.old.journal ≡ true → v ≡ value_in (replay (shown_by self.old.opened) self.old.journal snapshot) key.now) }
-        ensures noted { IfOk result (λ v. Notes (ReadEntry snapshot (GetQuestion key.now) (Found v) ∷ []) self.old.journal self.new.journal pass.old pass.new) }
-        ensures tree { self.new.tree ≡ self.old.tree }
-        ensures opened { self.new.opened ≡ self.old.opened }
-
-        ensures err { OnErr result ((self.new ≡ self.old) × (pass.new ≡ pass.old)) }
-        ensures refuses { RefusesRecorded (above (held self.old.opened)) self.old.tree.core snapshot result }
-        ensures kept { above (held self.old.opened) ≤ snapshot → IsKept snapshot self.old.journal → IfErr result (λ e. e ≡ Error.OutOfMemory) }
+        ensures { NotesGet key.now snapshot result self.old self.new pass.old pass.new }
     {
         reads_are_sound();
         if snapshot < self.least {
@@ -209,13 +195,7 @@ impl<S: Store> Recorded<S> {
         pass: &mut Pass,
         entry: InternalValue,
     ) -> Result<(u64, u64), Error>
-        ensures out_of_order { IsErrOf result Error.OutOfOrder ↔ (keeps_order (held self.old.opened) self.old.journal self.old.tree.core.seqno (plain entry) ≡ false) }
-        ensures core { OwnOr result (Appends (plain entry) result self.old.tree.core self.new.tree.core) }
-        ensures noted { OnOk result (Notes (WriteEntry (plain entry) ∷ []) self.old.journal self.new.journal pass.old pass.new) }
-        ensures views { OnOk result (StaysTo entry.key.seqno self.old.tree.core self.new.tree.core) }
-        ensures store { self.new.tree.store ≡ self.old.tree.store }
-        ensures err { OnErr result ((self.new ≡ self.old) × (pass.new ≡ pass.old)) }
-        ensures opened { self.new.opened ≡ self.old.opened }
+        ensures { NotesWrite (plain entry) result self.old self.new pass.old pass.new }
     {
         reads_are_sound();
         append_marked(
@@ -238,13 +218,7 @@ impl<S: Store> Recorded<S> {
         value: UserValue,
         seqno: SeqNo,
     ) -> Result<(u64, u64), Error>
-        ensures out_of_order { IsErrOf result Error.OutOfOrder ↔ (keeps_order (held self.old.opened) self.old.journal self.old.tree.core.seqno (op_entry key seqno (Set value)) ≡ false) }
-        ensures core { OwnOr result (Appends (op_entry key seqno (Set value)) result self.old.tree.core self.new.tree.core) }
-        ensures noted { OnOk result (Notes (WriteEntry (op_entry key seqno (Set value)) ∷ []) self.old.journal self.new.journal pass.old pass.new) }
-        ensures views { OnOk result (StaysTo seqno self.old.tree.core self.new.tree.core) }
-        ensures store { self.new.tree.store ≡ self.old.tree.store }
-        ensures err { OnErr result ((self.new ≡ self.old) × (pass.new ≡ pass.old)) }
-        ensures opened { self.new.opened ≡ self.old.opened }
+        ensures { NotesWrite (op_entry key seqno (Set value)) result self.old self.new pass.old pass.new }
     {
         let entry = InternalValue::from_components(key, value, seqno, ValueType::Value);
         self.append_entry(pass, entry)
@@ -257,13 +231,7 @@ impl<S: Store> Recorded<S> {
         key: UserKey,
         seqno: SeqNo,
     ) -> Result<(u64, u64), Error>
-        ensures out_of_order { IsErrOf result Error.OutOfOrder ↔ (keeps_order (held self.old.opened) self.old.journal self.old.tree.core.seqno (op_entry key seqno Del) ≡ false) }
-        ensures core { OwnOr result (Appends (op_entry key seqno Del) result self.old.tree.core self.new.tree.core) }
-        ensures noted { OnOk result (Notes (WriteEntry (op_entry key seqno Del) ∷ []) self.old.journal self.new.journal pass.old pass.new) }
-        ensures views { OnOk result (StaysTo seqno self.old.tree.core self.new.tree.core) }
-        ensures store { self.new.tree.store ≡ self.old.tree.store }
-        ensures err { OnErr result ((self.new ≡ self.old) × (pass.new ≡ pass.old)) }
-        ensures opened { self.new.opened ≡ self.old.opened }
+        ensures { NotesWrite (op_entry key seqno Del) result self.old self.new pass.old pass.new }
     {
         self.append_entry(pass, InternalValue::new_tombstone(key, seqno))
     }
@@ -275,13 +243,7 @@ impl<S: Store> Recorded<S> {
         key: UserKey,
         seqno: SeqNo,
     ) -> Result<(u64, u64), Error>
-        ensures out_of_order { IsErrOf result Error.OutOfOrder ↔ (keeps_order (held self.old.opened) self.old.journal self.old.tree.core.seqno (op_entry key seqno Weak) ≡ false) }
-        ensures core { OwnOr result (Appends (op_entry key seqno Weak) result self.old.tree.core self.new.tree.core) }
-        ensures noted { OnOk result (Notes (WriteEntry (op_entry key seqno Weak) ∷ []) self.old.journal self.new.journal pass.old pass.new) }
-        ensures views { OnOk result (StaysTo seqno self.old.tree.core self.new.tree.core) }
-        ensures store { self.new.tree.store ≡ self.old.tree.store }
-        ensures err { OnErr result ((self.new ≡ self.old) × (pass.new ≡ pass.old)) }
-        ensures opened { self.new.opened ≡ self.old.opened }
+        ensures { NotesWrite (op_entry key seqno Weak) result self.old self.new pass.old pass.new }
     {
         self.append_entry(pass, InternalValue::new_weak_tombstone(key, seqno))
     }
@@ -290,13 +252,7 @@ impl<S: Store> Recorded<S> {
     /// and the pass. `OutOfOrder`, before all else, exactly where one of its writes would break the order.
     /// Refused, it changes nothing.
     pub fn write(&mut self, pass: &mut Pass, ops: Vec<(UserKey, Op)>) -> Result<SeqNo, Error>
-        ensures out_of_order { IsErrOf result Error.OutOfOrder ↔ (batch_keeps_order (held self.old.opened) self.old.journal self.old.tree.core.seqno ops.items ≡ false) }
-        ensures core { OwnOr result (WritesBatch ops.items result self.old.tree.core self.new.tree.core) }
-        ensures noted { OnOk result (Notes (map WriteEntry (op_entries self.old.tree.core.seqno ops.items)) self.old.journal self.new.journal pass.old pass.new) }
-        ensures views { OnOk result (StaysTo self.old.tree.core.seqno self.old.tree.core self.new.tree.core) }
-        ensures store { self.new.tree.store ≡ self.old.tree.store }
-        ensures err { OnErr result ((self.new ≡ self.old) × (pass.new ≡ pass.old)) }
-        ensures opened { self.new.opened ≡ self.old.opened }
+        ensures { NotesBatch ops.items result self.old self.new pass.old pass.new }
     {
         reads_are_sound();
         write_marked(

@@ -292,3 +292,8 @@ module _ {T : Type 0} (job : SeenCompaction) (e : Error) (old new : Core) where
 
       none : {A : Type 0} → e ≡ TooManyRuns → ((e ≡ OutOfMemory) ⊎ ((e ≡ Store) ⊎ (e ≡ CommitUnknown))) ⊎ ((e ≡ OutOfNumbers) ⊎ (e ≡ AfterCommit)) → A
       none h = ⊎_elim (⊎_elim (λ (m : e ≡ OutOfMemory). cc (h, m)) (⊎_elim (λ (m : e ≡ Store). cc (h, m)) (λ (m : e ≡ CommitUnknown). cc (h, m)))) (⊎_elim (λ (m : e ≡ OutOfNumbers). cc (h, m)) (λ (m : e ≡ AfterCommit). cc (h, m)))
+
+-- the tables that were written make it up, of the job itself and of the tree before them
+pub merged_from : (first : ℕ) (list tables : List SeenTable) (v : SeenVersion) (lent job : SeenCompaction) (c old : Core) → list ≡ tables → AllByRecursion (λ t. first ≤ t.id) tables → ((n : ℕ) → AllByRecursion (λ t. n ≤ t.id) list → IsMergedInto n lent c.history.latest.version v) → lent ≡ job → c ≡ old → IsMergedInto first job old.history.latest.version v
+merged_from first list tables v lent job c old same fresh made is core =
+    subst (λ k. IsMergedInto first job k.history.latest.version v) core (subst (λ j. IsMergedInto first j c.history.latest.version v) is (made first (subst (AllByRecursion (λ (t : SeenTable). first ≤ t.id)) (sym same) fresh)))

@@ -1,5 +1,5 @@
 -- What each call of a tree does and answers.
-use Rattle.std.specs.Prelude.{◌≡◌, ℕ, ◌≤◌, ◌-◌, ◌^◌, min, length, ◌⊎◌, List, [], ◌∷◌, ◌++◌, map, Option, Some, None, Result, Err, IfOk, IfErr, IfSome, OnOk, OnErr, IsErrOf, ◌↔◌, if◌then◌else◌}
+use Rattle.std.specs.Prelude.{◌≡◌, ℕ, ◌≤◌, ◌-◌, ◌^◌, min, length, ◌⊎◌, List, [], ◌∷◌, ◌++◌, map, Option, Some, None, Result, Ok, Err, IfOk, IfErr, IfSome, OnOk, OnErr, IsErrOf, ◌↔◌, if◌then◌else◌}
 use Rattle.lsm_below.specs.Keys.{Bytes}
 use Rattle.lsm_below.specs.Entries.{Entry, above, is_tombstone_type}
 use Rattle.lsm_model.specs.Journal.{Event}
@@ -12,7 +12,8 @@ use Rattle.lsm_model.specs.declared.question.Question.TheVariants.{Get}
 use Rattle.lsm_model.specs.declared.question.Answer.TheVariants.{Found}
 use Rattle.lsm_memtable.specs.Memtables.{entry_size}
 use Rattle.lsm_below.specs.declared.error.Error.{Error}
-use Rattle.lsm_below.specs.declared.error.Error.TheVariants.{OutOfMemory, SnapshotTooOld}
+use Rattle.lsm_below.specs.declared.error.Error.TheVariants.{OutOfMemory, OutOfNumbers, SnapshotTooOld}
+use Rattle.lsm_versions.specs.declared.config.TheConstants.{LIMIT}
 use Rattle.lsm_parts.specs.Held.{entries_of, first_size, first_entries}
 use Rattle.lsm_state.specs.Core.{Core, state_of, latest_of, older_of, written_core, written_all, drawn_core, rotated_core}
 use Rattle.lsm_state.specs.Refusals.{entry_refusal, batch_refusal}
@@ -98,3 +99,22 @@ GivesEntry c k s e = (sv : SuperVersion) × (found_at s (latest_of c) (older_of 
 abbrev pub Rotates : Core → Option ℕ → Core → Type 0
 Rotates old None new = (first_entries old.memtables ≡ []) × (new ≡ old)
 Rotates old (Some id) new = (first_entries old.memtables ≡ [] → ⊥) × (id ≡ old.history.latest.active_memtable) × (new ≡ rotated_core old) × IsRotateStep old.next_memtable old new
+
+-- a rotation: there is nothing to seal, or the active memtable is sealed; it is refused, and nothing changes, only where no id is left
+-- for the one in its place, or for want of memory
+pub record SealsActive (r : Result (Option ℕ) Error) (old new : Core) : Type 0 where
+  pub ok : IfOk r (λ id. Rotates old id new)
+  pub empty : first_entries old.memtables ≡ [] → r ≡ Ok None
+  pub err : OnErr r (new ≡ old)
+  pub out_of_numbers : IsErrOf r OutOfNumbers → LIMIT ≤ old.next_memtable
+  pub only : IfErr r (λ e. (e ≡ OutOfNumbers) ⊎ (e ≡ OutOfMemory))
+
+-- ---- numbers
+
+-- a number is drawn from a counter, unless that stands at 2^63 or above: then nothing changes
+pub record Draws (counter : Core → ℕ) (drawn : Core → Core) (r : Result ℕ Error) (old new : Core) : Type 0 where
+  pub ok : IfOk r (λ n. n ≡ counter old)
+  pub used : OnOk r (new ≡ drawn old)
+  pub err : OnErr r (new ≡ old)
+  pub out_of_numbers : IsErrOf r OutOfNumbers ↔ LIMIT ≤ counter old
+  pub only : IfErr r (λ e. e ≡ OutOfNumbers)

@@ -6,6 +6,7 @@ pub mod Calls
 pub mod Lending
 pub mod Ranges
 pub mod Copies
+pub mod Reading
 pub mod Listing
 pub mod ListSteps
 pub mod Opened

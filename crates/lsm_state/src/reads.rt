@@ -1,11 +1,11 @@
 // The tree's reads.
-ghost use Rattle.std.specs.Prelude.{◌≡◌, Option, None, Some, is_some, option_map, map, reverse, option_copied, IfOk, IfSome};
+ghost use Rattle.std.specs.Prelude.{◌≡◌, None, Some, is_some, option_map, map, reverse, option_copied, IfOk};
 ghost use Rattle.lsm_below.specs.Entries.{value_of as value_given};
 ghost use Rattle.lsm_model.specs.Views.{found_at, sources, walk as walk_sources, shown as value_shown};
-ghost use Rattle.lsm_below.specs.Keys.{Bytes};
 ghost use Rattle.lsm_parts.specs.Held.{entries_of};
 ghost use Rattle.lsm_state.specs.Core.{latest_of, older_of, shown_as};
-ghost use Rattle.lsm_state.specs.Calls.{Finds, Gives, GivesEntry, IsGetStep, RefusesRead, RefusesOld, live, value_size};
+ghost use Rattle.lsm_state.specs.Calls.{Finds, RefusesOld, live, value_size};
+ghost use Rattle.lsm_state.specs.Reading.{Looks, ReadsKey, ReadsEntry, TellsValue, TellsSize};
 
 use crate::TreeState;
 use lsm_below::{InternalValue, MemtableId, SeqNo, UserValue, ValueType};
@@ -95,9 +95,7 @@ impl<S: Store> TreeState<S> {
     /// The value shares its bytes with the tree. Who keeps a small one keeps what it stands in: a chunk of up to 64 KiB, or, of a
     /// value that was flushed, all bytes of its table's file. Copy it to keep it for long.
     pub fn get(&self, key: &[u8], snapshot: SeqNo) -> Result<Option<UserValue>, Error>
-        ensures ok { IfOk result (λ v. Gives self.now.core key.now snapshot v) }
-        ensures step { IfOk result (λ v. IsGetStep self.now.core key.now snapshot v) }
-        ensures refuses { RefusesRead self.now.core snapshot result }
+        ensures { ReadsKey self.now.core key.now snapshot result }
     {
         match self.find(key, snapshot)? {
             Some(entry) => Ok(value_of(entry)?),
@@ -112,11 +110,7 @@ impl<S: Store> TreeState<S> {
         key: &[u8],
         snapshot: SeqNo,
     ) -> Result<Option<InternalValue>, Error>
-        ensures ok { IfOk result (λ e. GivesEntry self.now.core key.now snapshot e) }
-        ensures key { IfOk result (λ e. IfSome e (λ x. x.key.user_key ≡ key.now)) }
-        ensures value { IfOk result (λ e. Gives self.now.core key.now snapshot (option_map (λ x. x.value) e)) }
-        ensures step { IfOk result (λ e. IsGetStep self.now.core key.now snapshot (option_map (λ x. x.value) e)) }
-        ensures refuses { RefusesRead self.now.core snapshot result }
+        ensures { ReadsEntry self.now.core key.now snapshot result }
     {
         match self.find(key, snapshot)? {
             Some(entry) => Ok(copy_live(entry)?),
@@ -126,8 +120,7 @@ impl<S: Store> TreeState<S> {
 
     /// Whether a key has a value at a snapshot. `SnapshotTooOld` as `get`; it takes no memory.
     pub fn contains_key(&self, key: &[u8], snapshot: SeqNo) -> Result<bool, Error>
-        ensures ok { IfOk result (λ b. (v : Option Bytes) × Gives self.now.core key.now snapshot v × (b ≡ is_some v)) }
-        ensures refuses { RefusesOld self.now.core snapshot result }
+        ensures { Looks (TellsValue self.now.core key.now snapshot) self.now.core snapshot result }
     {
         match self.find(key, snapshot) {
             Ok(entry) => Ok(has_value(entry)),
@@ -137,8 +130,7 @@ impl<S: Store> TreeState<S> {
 
     /// The bytes of a key's value at a snapshot, None where it has none. `SnapshotTooOld` as `get`; it takes no memory.
     pub fn size_of(&self, key: &[u8], snapshot: SeqNo) -> Result<Option<u32>, Error>
-        ensures ok { IfOk result (λ n. (v : Option Bytes) × Gives self.now.core key.now snapshot v × (n ≡ option_map value_size v)) }
-        ensures refuses { RefusesOld self.now.core snapshot result }
+        ensures { Looks (TellsSize self.now.core key.now snapshot) self.now.core snapshot result }
     {
         match self.find(key, snapshot) {
             Ok(entry) => Ok(size_of_value(entry)),

@@ -1,3 +1,2 @@
-pub mod RecordedReads
 pub mod Gates
 pub mod Closing

@@ -1,19 +1,11 @@
 -- Calls of a tree behind a lock: what it was before is not known, nor what it is later.
-use Rattle.std.specs.Prelude.{◌≡◌, ℕ, ◌<◌, ◌≤◌, ◌⊎◌, List, [], ◌∷◌, None, false, Result, IfErr, IsErrOf, IsOk}
-use Rattle.lsm_model.specs.declared.journal.JournalEntry.{JournalEntry}
+use Rattle.std.specs.Prelude.{◌≡◌, ℕ, List, false, Result}
 use Rattle.lsm_below.specs.Keys.{Bytes}
-use Rattle.lsm_below.specs.Entries.{above}
-use Rattle.lsm_model.specs.Beginnings.{shown_by}
-use Rattle.lsm_model.specs.Journal.{ReadAgrees}
-use Rattle.lsm_model.specs.Views.{held, found_at}
 use Rattle.lsm_model.specs.declared.op.Op.{Op}
 use Rattle.lsm_commit.specs.Stored.{CountsFaults}
 use Rattle.lsm_below.specs.declared.error.Error.{Error}
-use Rattle.lsm_below.specs.declared.error.Error.TheVariants.{OutOfMemory, OutOfNumbers, OutOfOrder, SnapshotTooOld}
 use Rattle.lsm_store.specs.World.{World}
-use Rattle.lsm_versions.specs.declared.config.TheConstants.{LIMIT}
-use Rattle.lsm_state.specs.Core.{Core, Seen, latest_of, older_of}
-use Rattle.lsm_parts.specs.Held.{first_entries}
+use Rattle.lsm_state.specs.Core.{Core, Seen}
 use Rattle.lsm_state.specs.Kept.{IsKeptTree}
 use Rattle.lsm_state.specs.Commits.{UpholdsFiles}
 use Rattle.lsm_state.specs.Recording.{RecordsBatch}
@@ -21,7 +13,6 @@ use Rattle.lsm_logged.specs.Keeping.{SeenLogged, IsKeptLogged, is_unsure, tree_o
 use Rattle.lsm_logged.specs.Writing.{WritesLogged}
 use Rattle.lsm_logged.specs.Removing.{log_from_of, KeepsKnown, Passed}
 use Rattle.lsm_logged.specs.Flushing.{RemovesBehind}
-use Rattle.lsm_recorded.specs.Passes.{Notes}
 use Rattle.lsm_recorded.specs.Recorded.{SeenRecorded, IsKeptRecorded}
 use Rattle.lsm_state.specs.Files.{KeepsFiles}
 
@@ -48,21 +39,6 @@ OnSomeRecorded S P = (old : SeenRecorded S) × (new : SeenRecorded S) × P old n
 -- and did this to its files
 abbrev pub OnSomeRecordedFiles : {S : Type 0} → Type 0 → (S → World) → OnFiles S → (SeenRecorded S → SeenRecorded S → Type 0) → Type 0
 OnSomeRecordedFiles {S} tells world Files P = OnSomeRecorded S (λ old new. P old new × KeepsFiles tells world old.tree new.tree × Files tells world old.tree new.tree)
-
--- an answered read: what it gives of the tree, which stays, is what the replay of the journal does, outside dropped ranges, and is
--- noted in the journal and in the pass
-pub record ReadsNoted {S : Type 0} (answers : Core → Type 0) (read : JournalEntry) (old new : SeenRecorded S) (pass pass' : List (ℕ × JournalEntry)) : Type 0 where
-  pub gives : answers old.tree.core
-  pub agrees : ReadAgrees (shown_by old.opened) old.journal read
-  pub noted : Notes (read ∷ []) old.journal new.journal pass pass'
-  pub tree : new.tree ≡ old.tree
-  pub opened : new.opened ≡ old.opened
-
--- an answered write is noted in the tree's journal and in the pass
-pub record WritesNoted {S : Type 0} (does : Core → Core → Type 0) (entries : List JournalEntry) (old new : SeenRecorded S) (pass pass' : List (ℕ × JournalEntry)) : Type 0 where
-  pub writes : does old.tree.core new.tree.core
-  pub noted : Notes entries old.journal new.journal pass pass'
-  pub opened : new.opened ≡ old.opened
 
 -- a call that looked at some tree with its journal, of which this holds
 abbrev pub AtSomeRecorded : (S : Type 0) → (SeenRecorded S → Type 0) → Type 0
@@ -107,29 +83,3 @@ pub record LeavesLog {S : Type 0} (tells : Type 0) (world : S → World) (old ne
 -- a call that may remove records, and did this to its files
 abbrev pub OnSomeLoggedRemoving : {S : Type 0} → Type 0 → (S → World) → OnFiles S → (SeenLogged S → SeenLogged S → Type 0) → Type 0
 OnSomeLoggedRemoving {S} tells world Files P = OnSomeLogged S (λ old new. P old new × LeavesLog tells world old new × Files tells world (tree_of old) (tree_of new))
-
--- a read is refused as too old, where the tree has no super version for its snapshot, or for want of memory
-pub record RefusesSharedRead {A : Type 0} (snapshot : ℕ) (r : Result A Error) : Type 0 where
-  pub only : IfErr r (λ e. (e ≡ SnapshotTooOld) ⊎ (e ≡ OutOfMemory))
-  pub too_old : IsErrOf r SnapshotTooOld → AtSomeTree (λ c. found_at snapshot (latest_of c) (older_of c) ≡ None)
-  -- snapshot 0 is never too old
-  pub at_zero : snapshot ≡ 0 → IfErr r (λ e. e ≡ OutOfMemory)
-
--- the same of a tree that was opened with its journal: a read is out of order at a snapshot that isn't above all that was opened
-pub record RefusesRecordedRead (S : Type 0) {A : Type 0} (snapshot : ℕ) (r : Result A Error) : Type 0 where
-  pub only : IfErr r (λ e. (e ≡ OutOfOrder) ⊎ ((e ≡ SnapshotTooOld) ⊎ (e ≡ OutOfMemory)))
-  pub out_of_order : IsErrOf r OutOfOrder → AtSomeRecorded S (λ t. snapshot < above (held t.opened))
-  pub too_old : IsErrOf r SnapshotTooOld → AtSomeTree (λ c. found_at snapshot (latest_of c) (older_of c) ≡ None)
-  -- snapshot 0 is never too old
-  pub at_zero : snapshot ≡ 0 → IfErr r (λ e. (e ≡ OutOfOrder) ⊎ (e ≡ OutOfMemory))
-
--- a look is refused as too old, where the tree has no super version for its snapshot
-pub record RefusesSharedLook {A : Type 0} (snapshot : ℕ) (r : Result A Error) : Type 0 where
-  pub only : IfErr r (λ e. e ≡ SnapshotTooOld)
-  pub too_old : IsErrOf r SnapshotTooOld → AtSomeTree (λ c. found_at snapshot (latest_of c) (older_of c) ≡ None)
-  pub at_zero : snapshot ≡ 0 → IsOk r
-
--- a rotation is refused where no id is left to replace an active memtable that is not empty, or for want of memory
-pub record RefusesSharedRotation {A : Type 0} (r : Result A Error) : Type 0 where
-  pub only : IfErr r (λ e. (e ≡ OutOfNumbers) ⊎ (e ≡ OutOfMemory))
-  pub out_of_numbers : IsErrOf r OutOfNumbers → AtSomeTree (λ c. (LIMIT ≤ c.next_memtable) × (first_entries c.memtables ≡ [] → ⊥))

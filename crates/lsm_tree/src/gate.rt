@@ -56,3 +56,18 @@ pub(crate) fn told_end(finished: Result<Finished, Error>) -> Result<Begun, Error
         Err(error) => Err(error),
     }
 }
+
+/// What follows of how a compaction began: the end of the merge that it handed out, and of all else nothing.
+macro_rules! follow {
+    ($begun:expr, |$job:ident| $end:expr) => {
+        match $begun {
+            Ok(Begun::Job($job)) => $end,
+            Ok(Begun::DidNothing) => Ok(Begun::DidNothing),
+            Ok(Begun::Declined(why)) => Ok(Begun::Declined(why)),
+            Ok(Begun::Installed) => Ok(Begun::Installed),
+            Err(error) => Err(error),
+        }
+    };
+}
+
+pub(crate) use follow;

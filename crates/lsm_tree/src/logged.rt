@@ -1,15 +1,15 @@
 // The calls of a logged tree behind the lock.
-ghost use Rattle.std.specs.Prelude.{◌≡◌, ◌≤◌, ◌+◌, ◌↔◌, ℕ, true, Option, IfOk, IfErr, IsErrOf, IsTrue, length};
+ghost use Rattle.std.specs.Prelude.{◌≡◌, ◌+◌, ◌↔◌, ℕ, true, Option, IsTrue, length};
 ghost use Rattle.lsm_below.specs.Sums.{capped};
 ghost use Rattle.lsm_compaction.specs.OpenMerges.{hides};
 ghost use Rattle.lsm_parts.specs.Held.{HasFirst};
 ghost use Rattle.lsm_state.specs.WholeFlushes.{sealed_bytes};
 ghost use Rattle.lsm_state.specs.Flushes.{with_next_table};
-ghost use Rattle.lsm_state.specs.Calls.{Rotates};
+ghost use Rattle.lsm_state.specs.Calls.{SealsActive, Draws};
 ghost use Rattle.lsm_logged.specs.Keeping.{is_unsure};
 ghost use Rattle.lsm_logged.specs.Flushing.{ClearsLogged};
 ghost use Rattle.lsm_state.specs.Files.{ClearsFiles};
-ghost use Rattle.lsm_tree.specs.Shared.{OnSomeLogged, AtSomeTree, AtSomeLogged, TouchesTreeAlone, RefusesSharedRotation, WritesRecorded, OnSomeLoggedRemoving};
+ghost use Rattle.lsm_tree.specs.Shared.{OnSomeLogged, AtSomeTree, AtSomeLogged, TouchesTreeAlone, WritesRecorded, OnSomeLoggedRemoving};
 
 use crate::handle::Handle;
 use crate::lock::{act, read, read_tree};
@@ -34,8 +34,7 @@ impl<S: Store> Handle<Logged<S>> {
 
     /// Seals the active memtable, as `Logged::rotate_memtable`.
     pub fn rotate_memtable(&self, rt: &impl Wait) -> Result<Option<MemtableId>, Error>
-        ensures rotates { IfOk result (λ id. OnSomeLogged S (TouchesTreeAlone (λ old new. Rotates old id new))) }
-        ensures refused { RefusesSharedRotation result }
+        ensures { OnSomeLogged S (TouchesTreeAlone (SealsActive result)) }
     {
         act!(self, rt, |tree| tree.rotate_memtable())
     }
@@ -53,9 +52,7 @@ impl<S: Store> Handle<Logged<S>> {
     ///
     /// `OutOfNumbers` where the next id is 2^63 or more; then nothing changes.
     pub fn get_next_table_id(&self, rt: &impl Wait) -> Result<TableId, Error>
-        ensures draws { IfOk result (λ id. OnSomeLogged S (TouchesTreeAlone (λ old new. (id ≡ old.next_table) × (new ≡ with_next_table (old.next_table + 1) old)))) }
-        ensures only { IfErr result (λ e. e ≡ Error.OutOfNumbers) }
-        ensures out_of_numbers { IsErrOf result Error.OutOfNumbers → AtSomeTree (λ c. LIMIT ≤ c.next_table) }
+        ensures { OnSomeLogged S (TouchesTreeAlone (Draws (λ c. c.next_table) (λ c. with_next_table (c.next_table + 1) c) result)) }
     {
         act!(self, rt, |tree| tree.get_next_table_id())
     }

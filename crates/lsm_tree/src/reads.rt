@@ -1,11 +1,9 @@
 // The reads of a tree behind the lock, where they are noted nowhere.
-ghost use Rattle.std.specs.Prelude.{◌≡◌, Option, IfOk, is_some, option_map};
 ghost use Rattle.std.specs.declared.ops.Bound.TheVariants.{Unbounded};
 ghost use Rattle.lsm_iter.specs.declared.tree_iter.End.TheVariants.{Front, Back};
-ghost use Rattle.lsm_below.specs.Keys.{Bytes};
-ghost use Rattle.lsm_state.specs.Calls.{Gives, GivesEntry, value_size};
-ghost use Rattle.lsm_state.specs.Ranges.{Ranges, Prefixes, Numbers, PairAt, TellsEmpty};
-ghost use Rattle.lsm_tree.specs.Shared.{AtSomeTree, RefusesSharedRead, RefusesSharedLook};
+ghost use Rattle.lsm_state.specs.Ranges.{Numbers, PairAt, TellsEmpty};
+ghost use Rattle.lsm_state.specs.Reading.{Reads, Looks, ReadsKey, ReadsEntry, ReadsRange, ReadsPrefix, TellsValue, TellsSize};
+ghost use Rattle.lsm_tree.specs.Shared.{AtSomeTree};
 
 use crate::counts::HasTree;
 use crate::handle::Handle;
@@ -44,8 +42,7 @@ impl<C: ReadsTree> Handle<C> {
         key: &[u8],
         snapshot: SeqNo,
     ) -> Result<Option<UserValue>, Error>
-        ensures gives { IfOk result (λ v. AtSomeTree (λ c. Gives c key.now snapshot v)) }
-        ensures refused { RefusesSharedRead snapshot result }
+        ensures { AtSomeTree (λ c. ReadsKey c key.now snapshot result) }
     {
         read_tree!(self, rt, |tree| tree.get(key, snapshot))
     }
@@ -57,24 +54,21 @@ impl<C: ReadsTree> Handle<C> {
         key: &[u8],
         snapshot: SeqNo,
     ) -> Result<Option<InternalValue>, Error>
-        ensures gives { IfOk result (λ e. AtSomeTree (λ c. GivesEntry c key.now snapshot e)) }
-        ensures refused { RefusesSharedRead snapshot result }
+        ensures { AtSomeTree (λ c. ReadsEntry c key.now snapshot result) }
     {
         read_tree!(self, rt, |tree| tree.get_internal_entry(key, snapshot))
     }
 
     /// Whether a key has a value at a snapshot, as `TreeState::contains_key`.
     pub fn contains_key(&self, rt: &impl Wait, key: &[u8], snapshot: SeqNo) -> Result<bool, Error>
-        ensures tells { IfOk result (λ b. AtSomeTree (λ c. (v : Option Bytes) × Gives c key.now snapshot v × (b ≡ is_some v))) }
-        ensures refused { RefusesSharedLook snapshot result }
+        ensures { AtSomeTree (λ c. Looks (TellsValue c key.now snapshot) c snapshot result) }
     {
         read_tree!(self, rt, |tree| tree.contains_key(key, snapshot))
     }
 
     /// The bytes of a key's value at a snapshot, as `TreeState::size_of`.
     pub fn size_of(&self, rt: &impl Wait, key: &[u8], snapshot: SeqNo) -> Result<Option<u32>, Error>
-        ensures tells { IfOk result (λ n. AtSomeTree (λ c. (v : Option Bytes) × Gives c key.now snapshot v × (n ≡ option_map value_size v))) }
-        ensures refused { RefusesSharedLook snapshot result }
+        ensures { AtSomeTree (λ c. Looks (TellsSize c key.now snapshot) c snapshot result) }
     {
         read_tree!(self, rt, |tree| tree.size_of(key, snapshot))
     }
@@ -87,8 +81,7 @@ impl<C: ReadsTree> Handle<C> {
         snapshot: SeqNo,
         index: Option<(&Memtable, SeqNo)>,
     ) -> Result<TreeIter, Error>
-        ensures ok { IfOk result (λ iter. AtSomeTree (λ c. Ranges c index.entry bounds.now.0 bounds.now.1 snapshot iter.left)) }
-        ensures refused { RefusesSharedRead snapshot result }
+        ensures { AtSomeTree (λ c. ReadsRange c index.entry bounds.now.0 bounds.now.1 snapshot result) }
     {
         read_tree!(
             self,
@@ -105,8 +98,7 @@ impl<C: ReadsTree> Handle<C> {
         snapshot: SeqNo,
         index: Option<(&Memtable, SeqNo)>,
     ) -> Result<TreeIter, Error>
-        ensures ok { IfOk result (λ iter. AtSomeTree (λ c. Ranges c index.entry bounds.now.0 bounds.now.1 snapshot iter.left)) }
-        ensures refused { RefusesSharedRead snapshot result }
+        ensures { AtSomeTree (λ c. ReadsRange c index.entry bounds.now.0 bounds.now.1 snapshot result) }
     {
         read_tree!(self, rt, |tree| tree.range(bounds, snapshot, index))
     }
@@ -119,8 +111,7 @@ impl<C: ReadsTree> Handle<C> {
         snapshot: SeqNo,
         index: Option<(&Memtable, SeqNo)>,
     ) -> Result<TreeIter, Error>
-        ensures ok { IfOk result (λ iter. AtSomeTree (λ c. Ranges c index.entry bounds.now.0 bounds.now.1 snapshot iter.left)) }
-        ensures refused { RefusesSharedRead snapshot result }
+        ensures { AtSomeTree (λ c. ReadsRange c index.entry bounds.now.0 bounds.now.1 snapshot result) }
     {
         read_tree!(self, rt, |tree| tree.create_range(bounds, snapshot, index))
     }
@@ -132,8 +123,7 @@ impl<C: ReadsTree> Handle<C> {
         snapshot: SeqNo,
         index: Option<(&Memtable, SeqNo)>,
     ) -> Result<TreeIter, Error>
-        ensures ok { IfOk result (λ iter. AtSomeTree (λ c. Ranges c index.entry Unbounded Unbounded snapshot iter.left)) }
-        ensures refused { RefusesSharedRead snapshot result }
+        ensures { AtSomeTree (λ c. ReadsRange c index.entry Unbounded Unbounded snapshot result) }
     {
         read_tree!(self, rt, |tree| tree.iter(snapshot, index))
     }
@@ -145,8 +135,7 @@ impl<C: ReadsTree> Handle<C> {
         snapshot: SeqNo,
         index: Option<(&Memtable, SeqNo)>,
     ) -> Result<TreeIter, Error>
-        ensures ok { IfOk result (λ iter. AtSomeTree (λ c. Ranges c index.entry Unbounded Unbounded snapshot iter.left)) }
-        ensures refused { RefusesSharedRead snapshot result }
+        ensures { AtSomeTree (λ c. ReadsRange c index.entry Unbounded Unbounded snapshot result) }
     {
         read_tree!(self, rt, |tree| tree.create_iter(snapshot, index))
     }
@@ -159,8 +148,7 @@ impl<C: ReadsTree> Handle<C> {
         snapshot: SeqNo,
         index: Option<(&Memtable, SeqNo)>,
     ) -> Result<TreeIter, Error>
-        ensures ok { IfOk result (λ iter. AtSomeTree (λ c. Prefixes c index.entry prefix.now snapshot iter.left)) }
-        ensures refused { RefusesSharedRead snapshot result }
+        ensures { AtSomeTree (λ c. ReadsPrefix c index.entry prefix.now snapshot result) }
     {
         read_tree!(self, rt, |tree| tree.prefix(prefix, snapshot, index))
     }
@@ -173,8 +161,7 @@ impl<C: ReadsTree> Handle<C> {
         snapshot: SeqNo,
         index: Option<(&Memtable, SeqNo)>,
     ) -> Result<TreeIter, Error>
-        ensures ok { IfOk result (λ iter. AtSomeTree (λ c. Prefixes c index.entry prefix.now snapshot iter.left)) }
-        ensures refused { RefusesSharedRead snapshot result }
+        ensures { AtSomeTree (λ c. ReadsPrefix c index.entry prefix.now snapshot result) }
     {
         read_tree!(self, rt, |tree| tree.create_prefix(prefix, snapshot, index))
     }
@@ -186,8 +173,7 @@ impl<C: ReadsTree> Handle<C> {
         snapshot: SeqNo,
         index: Option<(&Memtable, SeqNo)>,
     ) -> Result<usize, Error>
-        ensures ok { IfOk result (λ n. AtSomeTree (λ c. Numbers c index.entry snapshot n)) }
-        ensures refused { RefusesSharedRead snapshot result }
+        ensures { AtSomeTree (λ c. Reads (Numbers c index.entry snapshot) c snapshot result) }
     {
         read_tree!(self, rt, |tree| tree.len(snapshot, index))
     }
@@ -199,8 +185,7 @@ impl<C: ReadsTree> Handle<C> {
         snapshot: SeqNo,
         index: Option<(&Memtable, SeqNo)>,
     ) -> Result<bool, Error>
-        ensures ok { IfOk result (λ b. AtSomeTree (λ c. TellsEmpty Front c index.entry snapshot b)) }
-        ensures refused { RefusesSharedRead snapshot result }
+        ensures { AtSomeTree (λ c. Reads (TellsEmpty Front c index.entry snapshot) c snapshot result) }
     {
         read_tree!(self, rt, |tree| tree.is_empty(snapshot, index))
     }
@@ -212,8 +197,7 @@ impl<C: ReadsTree> Handle<C> {
         snapshot: SeqNo,
         index: Option<(&Memtable, SeqNo)>,
     ) -> Result<Option<Guard>, Error>
-        ensures ok { IfOk result (λ pair. AtSomeTree (λ c. PairAt Front c index.entry snapshot pair)) }
-        ensures refused { RefusesSharedRead snapshot result }
+        ensures { AtSomeTree (λ c. Reads (PairAt Front c index.entry snapshot) c snapshot result) }
     {
         read_tree!(self, rt, |tree| tree.first_key_value(snapshot, index))
     }
@@ -225,8 +209,7 @@ impl<C: ReadsTree> Handle<C> {
         snapshot: SeqNo,
         index: Option<(&Memtable, SeqNo)>,
     ) -> Result<Option<Guard>, Error>
-        ensures ok { IfOk result (λ pair. AtSomeTree (λ c. PairAt Back c index.entry snapshot pair)) }
-        ensures refused { RefusesSharedRead snapshot result }
+        ensures { AtSomeTree (λ c. Reads (PairAt Back c index.entry snapshot) c snapshot result) }
     {
         read_tree!(self, rt, |tree| tree.last_key_value(snapshot, index))
     }

@@ -1,24 +1,21 @@
 // The calls of a tree with its journal, behind the lock.
-ghost use Rattle.std.specs.Prelude.{◌≡◌, [], ◌∷◌, ◌⊎◌, false, map, IfOk, IfErr, OnOk, OnErr, IsErrOf, is_some};
+ghost use Rattle.std.specs.Prelude.{◌≡◌, ◌⊎◌, IfOk, IfErr, is_some};
 ghost use Rattle.lsm_below.specs.Entries.{plain};
 ghost use Rattle.lsm_model.specs.Views.{held};
 ghost use Rattle.lsm_model.specs.Beginnings.{shown_by};
 ghost use Rattle.lsm_model.specs.Journal.{Agrees};
-ghost use Rattle.lsm_model.specs.Ops.{op_entry, op_entries};
-ghost use Rattle.lsm_model.specs.declared.journal.JournalEntry.TheVariants.{Write as WriteEntry, Read as ReadEntry};
-ghost use Rattle.lsm_model.specs.declared.question.Question.TheVariants.{Get as GetQuestion, Between, Prefix};
-ghost use Rattle.lsm_model.specs.declared.question.Answer.TheVariants.{Found, Pairs as PairsAnswer};
+ghost use Rattle.lsm_model.specs.Ops.{op_entry};
+ghost use Rattle.lsm_model.specs.declared.question.Question.TheVariants.{Between, Prefix};
 ghost use Rattle.lsm_model.specs.declared.op.Op.TheVariants.{Set, Del, Weak};
 ghost use Rattle.lsm_versions.specs.Levels.{placed_of};
 ghost use Rattle.lsm_recorded.specs.Closing.{ListTogether};
-ghost use Rattle.lsm_recorded.specs.Order.{keeps_order, batch_keeps_order};
-ghost use Rattle.lsm_state.specs.Calls.{Appends, Gives, WritesBatch, Rotates};
+ghost use Rattle.lsm_state.specs.Calls.{SealsActive};
+ghost use Rattle.lsm_recorded.specs.Calls.{NotesWrite, NotesBatch, NotesGet, NotesPairs, NotesNothing};
 ghost use Rattle.lsm_state.specs.Listing.{Lists, ListsPrefix};
-ghost use Rattle.lsm_recorded.specs.Recorded.{OwnOr};
 ghost use Rattle.lsm_recorded.specs.Flushing.{RefusesUnnoted};
 ghost use Rattle.lsm_recorded.specs.Clearing.{ClearsNoted};
 ghost use Rattle.lsm_state.specs.Files.{ClearsFiles};
-ghost use Rattle.lsm_tree.specs.Shared.{OnSomeTreeAlone, OnSomeRecorded, AtSomeTree, AtSomeRecorded, RefusesRecordedRead, RefusesSharedRotation, ReadsNoted, WritesNoted, OnSomeRecordedFiles};
+ghost use Rattle.lsm_tree.specs.Shared.{OnSomeTreeAlone, OnSomeRecorded, AtSomeTree, AtSomeRecorded, OnSomeRecordedFiles};
 
 use crate::handle::Handle;
 use crate::lock::{act, read};
@@ -41,9 +38,7 @@ impl<S: Store> Handle<Recorded<S>> {
         key: &[u8],
         snapshot: SeqNo,
     ) -> Result<Option<UserValue>, Error>
-        ensures refused { RefusesRecordedRead S snapshot result }
-        ensures gives { IfOk result (λ v. OnSomeRecorded S (λ old new. ReadsNoted (λ c. Gives c key.now snapshot v) (ReadEntry snapshot (GetQuestion key.now) (Found v)) old new pass.old pass.new)) }
-        ensures err { OnErr result (pass.new ≡ pass.old) }
+        ensures { OnSomeRecorded S (λ old new. NotesGet key.now snapshot result old new pass.old pass.new) }
     {
         act!(self, rt, |tree| tree.get(pass, key, snapshot))
     }
@@ -56,9 +51,7 @@ impl<S: Store> Handle<Recorded<S>> {
         bounds: &(Bound<UserKey>, Bound<UserKey>),
         snapshot: SeqNo,
     ) -> Result<KvPairs, Error>
-        ensures refused { RefusesRecordedRead S snapshot result }
-        ensures gives { IfOk result (λ pairs. OnSomeRecorded S (λ old new. ReadsNoted (λ c. Lists c bounds.now.0 bounds.now.1 snapshot pairs) (ReadEntry snapshot (Between bounds.now.0 bounds.now.1) (PairsAnswer pairs)) old new pass.old pass.new)) }
-        ensures err { OnErr result (pass.new ≡ pass.old) }
+        ensures { OnSomeRecorded S (λ old new. NotesPairs (Between bounds.now.0 bounds.now.1) (λ c pairs. Lists c bounds.now.0 bounds.now.1 snapshot pairs) snapshot result old new pass.old pass.new) }
     {
         act!(self, rt, |tree| tree.range(pass, bounds, snapshot))
     }
@@ -71,9 +64,7 @@ impl<S: Store> Handle<Recorded<S>> {
         prefix: &UserKey,
         snapshot: SeqNo,
     ) -> Result<KvPairs, Error>
-        ensures refused { RefusesRecordedRead S snapshot result }
-        ensures gives { IfOk result (λ pairs. OnSomeRecorded S (λ old new. ReadsNoted (λ c. ListsPrefix c prefix.now snapshot pairs) (ReadEntry snapshot (Prefix prefix.now) (PairsAnswer pairs)) old new pass.old pass.new)) }
-        ensures err { OnErr result (pass.new ≡ pass.old) }
+        ensures { OnSomeRecorded S (λ old new. NotesPairs (Prefix prefix.now) (λ c pairs. ListsPrefix c prefix.now snapshot pairs) snapshot result old new pass.old pass.new) }
     {
         act!(self, rt, |tree| tree.prefix(pass, prefix, snapshot))
     }
@@ -84,9 +75,7 @@ impl<S: Store> Handle<Recorded<S>> {
         rt: &impl Wait,
         pass: &mut Pass,
     ) -> Result<Option<MemtableId>, Error>
-        ensures rotates { IfOk result (λ id. OnSomeTreeAlone S (λ old new. Rotates old id new)) }
-        ensures refused { RefusesSharedRotation result }
-        ensures pass { pass.new ≡ pass.old }
+        ensures { OnSomeRecorded S (λ old new. NotesNothing (SealsActive result) old new pass.old pass.new) }
     {
         act!(self, rt, |tree| tree.rotate_memtable(pass))
     }
@@ -98,10 +87,7 @@ impl<S: Store> Handle<Recorded<S>> {
         pass: &mut Pass,
         entry: InternalValue,
     ) -> Result<(u64, u64), Error>
-        ensures core { OwnOr result (OnSomeTreeAlone S (λ old new. Appends (plain entry) result old new)) }
-        ensures out_of_order { IsErrOf result Error.OutOfOrder → AtSomeRecorded S (λ t. keeps_order (held t.opened) t.journal t.tree.core.seqno (plain entry) ≡ false) }
-        ensures noted { OnOk result (OnSomeRecorded S (λ old new. WritesNoted (Appends (plain entry) result) (WriteEntry (plain entry) ∷ []) old new pass.old pass.new)) }
-        ensures err { OnErr result (pass.new ≡ pass.old) }
+        ensures { OnSomeRecorded S (λ old new. NotesWrite (plain entry) result old new pass.old pass.new) }
     {
         act!(self, rt, |tree| tree.append_entry(pass, entry))
     }
@@ -115,10 +101,7 @@ impl<S: Store> Handle<Recorded<S>> {
         value: UserValue,
         seqno: SeqNo,
     ) -> Result<(u64, u64), Error>
-        ensures core { OwnOr result (OnSomeTreeAlone S (λ old new. Appends (op_entry key seqno (Set value)) result old new)) }
-        ensures out_of_order { IsErrOf result Error.OutOfOrder → AtSomeRecorded S (λ t. keeps_order (held t.opened) t.journal t.tree.core.seqno (op_entry key seqno (Set value)) ≡ false) }
-        ensures noted { OnOk result (OnSomeRecorded S (λ old new. WritesNoted (Appends (op_entry key seqno (Set value)) result) (WriteEntry (op_entry key seqno (Set value)) ∷ []) old new pass.old pass.new)) }
-        ensures err { OnErr result (pass.new ≡ pass.old) }
+        ensures { OnSomeRecorded S (λ old new. NotesWrite (op_entry key seqno (Set value)) result old new pass.old pass.new) }
     {
         act!(self, rt, |tree| tree.insert(pass, key, value, seqno))
     }
@@ -131,10 +114,7 @@ impl<S: Store> Handle<Recorded<S>> {
         key: UserKey,
         seqno: SeqNo,
     ) -> Result<(u64, u64), Error>
-        ensures core { OwnOr result (OnSomeTreeAlone S (λ old new. Appends (op_entry key seqno Del) result old new)) }
-        ensures out_of_order { IsErrOf result Error.OutOfOrder → AtSomeRecorded S (λ t. keeps_order (held t.opened) t.journal t.tree.core.seqno (op_entry key seqno Del) ≡ false) }
-        ensures noted { OnOk result (OnSomeRecorded S (λ old new. WritesNoted (Appends (op_entry key seqno Del) result) (WriteEntry (op_entry key seqno Del) ∷ []) old new pass.old pass.new)) }
-        ensures err { OnErr result (pass.new ≡ pass.old) }
+        ensures { OnSomeRecorded S (λ old new. NotesWrite (op_entry key seqno Del) result old new pass.old pass.new) }
     {
         act!(self, rt, |tree| tree.remove(pass, key, seqno))
     }
@@ -147,10 +127,7 @@ impl<S: Store> Handle<Recorded<S>> {
         key: UserKey,
         seqno: SeqNo,
     ) -> Result<(u64, u64), Error>
-        ensures core { OwnOr result (OnSomeTreeAlone S (λ old new. Appends (op_entry key seqno Weak) result old new)) }
-        ensures out_of_order { IsErrOf result Error.OutOfOrder → AtSomeRecorded S (λ t. keeps_order (held t.opened) t.journal t.tree.core.seqno (op_entry key seqno Weak) ≡ false) }
-        ensures noted { OnOk result (OnSomeRecorded S (λ old new. WritesNoted (Appends (op_entry key seqno Weak) result) (WriteEntry (op_entry key seqno Weak) ∷ []) old new pass.old pass.new)) }
-        ensures err { OnErr result (pass.new ≡ pass.old) }
+        ensures { OnSomeRecorded S (λ old new. NotesWrite (op_entry key seqno Weak) result old new pass.old pass.new) }
     {
         act!(self, rt, |tree| tree.remove_weak(pass, key, seqno))
     }
@@ -162,10 +139,7 @@ impl<S: Store> Handle<Recorded<S>> {
         pass: &mut Pass,
         ops: Vec<(UserKey, Op)>,
     ) -> Result<SeqNo, Error>
-        ensures core { OwnOr result (OnSomeTreeAlone S (λ old new. WritesBatch ops.items result old new)) }
-        ensures out_of_order { IsErrOf result Error.OutOfOrder → AtSomeRecorded S (λ t. batch_keeps_order (held t.opened) t.journal t.tree.core.seqno ops.items ≡ false) }
-        ensures noted { OnOk result (OnSomeRecorded S (λ old new. WritesNoted (WritesBatch ops.items result) (map WriteEntry (op_entries old.tree.core.seqno ops.items)) old new pass.old pass.new)) }
-        ensures err { OnErr result (pass.new ≡ pass.old) }
+        ensures { OnSomeRecorded S (λ old new. NotesBatch ops.items result old new pass.old pass.new) }
     {
         act!(self, rt, |tree| tree.write(pass, ops))
     }

@@ -1,13 +1,13 @@
 // The calls of a tree behind the lock.
-ghost use Rattle.std.specs.Prelude.{◌≡◌, ◌<◌, ◌≤◌, ◌+◌, max, Option, IfOk, IfErr, IsErrOf};
+ghost use Rattle.std.specs.Prelude.{◌≡◌, ◌<◌, ◌+◌, max, Option, IfOk};
 ghost use Rattle.lsm_below.specs.Entries.{plain};
 ghost use Rattle.lsm_model.specs.Ops.{op_entry};
 ghost use Rattle.lsm_model.specs.declared.op.Op.TheVariants.{Set, Del, Weak};
 ghost use Rattle.lsm_state.specs.Flushes.{with_next_table};
-ghost use Rattle.lsm_state.specs.Calls.{Appends, WritesBatch, Rotates};
+ghost use Rattle.lsm_state.specs.Calls.{Appends, WritesBatch, SealsActive, Draws};
 ghost use Rattle.lsm_state.specs.Clearing.{Clears, ForgetsUnflushed};
 ghost use Rattle.lsm_state.specs.Files.{ClearsFiles};
-ghost use Rattle.lsm_tree.specs.Shared.{OnSomeTreeAlone, AtSomeTree, RefusesSharedRotation, OnSomeTreeFiles};
+ghost use Rattle.lsm_tree.specs.Shared.{OnSomeTreeAlone, OnSomeTreeFiles};
 
 use crate::handle::Handle;
 use crate::lock::act;
@@ -23,8 +23,7 @@ use std::sync::Wait;
 impl<S: Store> Handle<TreeState<S>> {
     /// Seals the active memtable, as `TreeState::rotate_memtable`.
     pub fn rotate_memtable(&self, rt: &impl Wait) -> Result<Option<MemtableId>, Error>
-        ensures rotates { IfOk result (λ id. OnSomeTreeAlone S (λ old new. Rotates old id new)) }
-        ensures refused { RefusesSharedRotation result }
+        ensures { OnSomeTreeAlone S (SealsActive result) }
     {
         act!(self, rt, |tree| tree.rotate_memtable())
     }
@@ -95,10 +94,8 @@ impl<S: Store> Handle<TreeState<S>> {
     ///
     /// `OutOfNumbers` from 2^63 on; then nothing changes.
     pub fn next_seqno(&self, rt: &impl Wait) -> Result<SeqNo, Error>
-        ensures draws { IfOk result (λ n. OnSomeTreeAlone S (λ old new. (n ≡ old.seqno) × (new ≡ record old { seqno = old.seqno + 1 }))) }
+        ensures draws { OnSomeTreeAlone S (Draws (λ c. c.seqno) (λ c. record c { seqno = c.seqno + 1 }) result) }
         ensures below { IfOk result (λ n. n < LIMIT) }
-        ensures only { IfErr result (λ e. e ≡ Error.OutOfNumbers) }
-        ensures out_of_numbers { IsErrOf result Error.OutOfNumbers → AtSomeTree (λ c. LIMIT ≤ c.seqno) }
     {
         act!(self, rt, |tree| tree.seqno_mut().next())
     }
@@ -109,9 +106,7 @@ impl<S: Store> Handle<TreeState<S>> {
     ///
     /// `OutOfNumbers` where the next id is 2^63 or more; then nothing changes.
     pub fn get_next_table_id(&self, rt: &impl Wait) -> Result<TableId, Error>
-        ensures draws { IfOk result (λ id. OnSomeTreeAlone S (λ old new. (id ≡ old.next_table) × (new ≡ with_next_table (old.next_table + 1) old))) }
-        ensures only { IfErr result (λ e. e ≡ Error.OutOfNumbers) }
-        ensures out_of_numbers { IsErrOf result Error.OutOfNumbers → AtSomeTree (λ c. LIMIT ≤ c.next_table) }
+        ensures { OnSomeTreeAlone S (Draws (λ c. c.next_table) (λ c. with_next_table (c.next_table + 1) c) result) }
     {
         act!(self, rt, |tree| tree.get_next_table_id())
     }

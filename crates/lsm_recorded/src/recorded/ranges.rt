@@ -9,6 +9,7 @@ ghost use Rattle.lsm_model.specs.declared.question.Question.TheVariants.{Between
 ghost use Rattle.lsm_model.specs.declared.question.Answer.TheVariants.{Pairs as PairsAnswer};
 ghost use Rattle.lsm_iter.specs.Guards.{pair_of};
 ghost use Rattle.lsm_state.specs.Ranges.{Ranges, Prefixes, IsListStep, IsRangeStep, IsPrefixStep};
+ghost use Rattle.lsm_recorded.specs.Calls.{NotesPairs};
 ghost use Rattle.lsm_recorded.specs.Passes.{Notes};
 ghost use Rattle.lsm_state.specs.Listing.{Lists, ListsPrefix};
 
@@ -113,14 +114,7 @@ impl<S: Store> Recorded<S> {
         bounds: &(Bound<UserKey>, Bound<UserKey>),
         snapshot: SeqNo,
     ) -> Result<KvPairs, Error>
-        ensures core { IfOk result (λ pairs. Lists self.old.tree.core bounds.now.0 bounds.now.1 snapshot pairs) }
-        ensures replay { IfOk result (λ pairs. ReadAgrees (shown_by self.old.opened) self.old.journal (ReadEntry snapshot (Between bounds.now.0 bounds.now.1) (PairsAnswer pairs))) }
-        ensures noted { IfOk result (λ pairs. Notes (ReadEntry snapshot (Between bounds.now.0 bounds.now.1) (PairsAnswer pairs) ∷ []) self.old.journal self.new.journal pass.old pass.new) }
-        ensures tree { self.new.tree ≡ self.old.tree }
-        ensures opened { self.new.opened ≡ self.old.opened }
-        ensures err { OnErr result ((self.new ≡ self.old) × (pass.new ≡ pass.old)) }
-        ensures refuses { RefusesRecorded (above (held self.old.opened)) self.old.tree.core snapshot result }
-        ensures kept { above (held self.old.opened) ≤ snapshot → IsKept snapshot self.old.journal → IfErr result (λ e. e ≡ Error.OutOfMemory) }
+        ensures { NotesPairs (Between bounds.now.0 bounds.now.1) (λ c pairs. Lists c bounds.now.0 bounds.now.1 snapshot pairs) snapshot result self.old self.new pass.old pass.new }
     {
         let pairs = self.pairs(bounds, snapshot)?;
         let list = share_pairs(self.alloc, pairs)?;
@@ -136,14 +130,7 @@ impl<S: Store> Recorded<S> {
         prefix: &UserKey,
         snapshot: SeqNo,
     ) -> Result<KvPairs, Error>
-        ensures core { IfOk result (λ pairs. ListsPrefix self.old.tree.core prefix.now snapshot pairs) }
-        ensures replay { IfOk result (λ pairs. ReadAgrees (shown_by self.old.opened) self.old.journal (ReadEntry snapshot (Prefix prefix.now) (PairsAnswer pairs))) }
-        ensures noted { IfOk result (λ pairs. Notes (ReadEntry snapshot (Prefix prefix.now) (PairsAnswer pairs) ∷ []) self.old.journal self.new.journal pass.old pass.new) }
-        ensures tree { self.new.tree ≡ self.old.tree }
-        ensures opened { self.new.opened ≡ self.old.opened }
-        ensures err { OnErr result ((self.new ≡ self.old) × (pass.new ≡ pass.old)) }
-        ensures refuses { RefusesRecorded (above (held self.old.opened)) self.old.tree.core snapshot result }
-        ensures kept { above (held self.old.opened) ≤ snapshot → IsKept snapshot self.old.journal → IfErr result (λ e. e ≡ Error.OutOfMemory) }
+        ensures { NotesPairs (Prefix prefix.now) (λ c pairs. ListsPrefix c prefix.now snapshot pairs) snapshot result self.old self.new pass.old pass.new }
     {
         let pairs = self.pairs_with_prefix(prefix, snapshot)?;
         let list = share_pairs(self.alloc, pairs)?;

@@ -3,10 +3,10 @@ ghost use Rattle.std.specs.Prelude.{◌≡◌, ℕ, List, [], ◌∷◌, ◌++�
 ghost use Rattle.std.specs.declared.ops.Bound.TheVariants.{Unbounded};
 ghost use Rattle.lsm_iter.specs.declared.tree_iter.End.TheVariants.{Front, Back};
 ghost use Rattle.lsm_below.specs.Entries.{Entry};
-ghost use Rattle.lsm_state.specs.Calls.{RefusesRead};
-ghost use Rattle.lsm_state.specs.Copies.{AreThose, Copies, CopiesPrefix, HoldsPrefix, copies_at};
+ghost use Rattle.lsm_state.specs.Copies.{AreThose, HoldsPrefix, copies_at};
 ghost use Rattle.lsm_state.specs.Core.{shown_as};
-ghost use Rattle.lsm_state.specs.Ranges.{counting, Ranges, Prefixes, Numbers, PairAt, TellsEmpty, EndOf, IsRangeStep, IsPrefixStep};
+ghost use Rattle.lsm_state.specs.Ranges.{counting, Numbers, PairAt, TellsEmpty, EndOf};
+ghost use Rattle.lsm_state.specs.Reading.{Reads, ReadsRange, ReadsPrefix, LendsRange, LendsPrefix};
 ghost use Rattle.lsm_iter.specs.Shown.{Shows, ShowsPrefix};
 ghost use Rattle.lsm_iter.specs.Ends.{EndShown, NumberShown};
 
@@ -189,10 +189,7 @@ impl<S: Store> TreeState<S> {
         snapshot: SeqNo,
         index: Option<(&Memtable, SeqNo)>,
     ) -> Result<TreeIter, Error>
-        ensures ok { IfOk result (λ iter. Ranges self.now.core index.entry bounds.now.0 bounds.now.1 snapshot iter.left) }
-        ensures held { IfOk result (λ iter. Copies self.now.core index.entry bounds.now.0 bounds.now.1 snapshot iter.held) }
-        ensures step { index.entry ≡ None → IfOk result (λ iter. IsRangeStep self.now.core bounds.now.0 bounds.now.1 snapshot iter.left) }
-        ensures refuses { RefusesRead self.now.core snapshot result }
+        ensures { ReadsRange self.now.core index.entry bounds.now.0 bounds.now.1 snapshot result }
     {
         lists_are_steps();
         match self.version_at(snapshot) {
@@ -229,9 +226,7 @@ impl<S: Store> TreeState<S> {
         snapshot: SeqNo,
         index: Option<(&'a Memtable, SeqNo)>,
     ) -> Result<Pairs<'a>, Error>
-        ensures ok { IfOk result (λ pairs. Ranges self.now.core index.entry bounds.now.0 bounds.now.1 snapshot pairs) }
-        ensures step { index.entry ≡ None → IfOk result (λ pairs. IsRangeStep self.now.core bounds.now.0 bounds.now.1 snapshot pairs) }
-        ensures refuses { RefusesRead self.now.core snapshot result }
+        ensures { LendsRange self.now.core index.entry bounds.now.0 bounds.now.1 snapshot result }
     {
         lists_are_steps();
         match self.version_at(snapshot) {
@@ -256,9 +251,7 @@ impl<S: Store> TreeState<S> {
         snapshot: SeqNo,
         index: Option<(&'a Memtable, SeqNo)>,
     ) -> Result<Pairs<'a>, Error>
-        ensures ok { IfOk result (λ pairs. Prefixes self.now.core index.entry prefix.now snapshot pairs) }
-        ensures step { index.entry ≡ None → IfOk result (λ pairs. IsPrefixStep self.now.core prefix.now snapshot pairs) }
-        ensures refuses { RefusesRead self.now.core snapshot result }
+        ensures { LendsPrefix self.now.core index.entry prefix.now snapshot result }
     {
         lists_are_steps();
         match self.version_at(snapshot) {
@@ -291,10 +284,7 @@ impl<S: Store> TreeState<S> {
         snapshot: SeqNo,
         index: Option<(&Memtable, SeqNo)>,
     ) -> Result<TreeIter, Error>
-        ensures ok { IfOk result (λ iter. Ranges self.now.core index.entry bounds.now.0 bounds.now.1 snapshot iter.left) }
-        ensures held { IfOk result (λ iter. Copies self.now.core index.entry bounds.now.0 bounds.now.1 snapshot iter.held) }
-        ensures step { index.entry ≡ None → IfOk result (λ iter. IsRangeStep self.now.core bounds.now.0 bounds.now.1 snapshot iter.left) }
-        ensures refuses { RefusesRead self.now.core snapshot result }
+        ensures { ReadsRange self.now.core index.entry bounds.now.0 bounds.now.1 snapshot result }
     {
         self.create_internal_range(bounds, snapshot, index)
     }
@@ -306,9 +296,7 @@ impl<S: Store> TreeState<S> {
         snapshot: SeqNo,
         index: Option<(&Memtable, SeqNo)>,
     ) -> Result<TreeIter, Error>
-        ensures ok { IfOk result (λ iter. Ranges self.now.core index.entry bounds.now.0 bounds.now.1 snapshot iter.left) }
-        ensures held { IfOk result (λ iter. Copies self.now.core index.entry bounds.now.0 bounds.now.1 snapshot iter.held) }
-        ensures refuses { RefusesRead self.now.core snapshot result }
+        ensures { ReadsRange self.now.core index.entry bounds.now.0 bounds.now.1 snapshot result }
     {
         self.create_internal_range(bounds, snapshot, index)
     }
@@ -319,9 +307,7 @@ impl<S: Store> TreeState<S> {
         snapshot: SeqNo,
         index: Option<(&Memtable, SeqNo)>,
     ) -> Result<TreeIter, Error>
-        ensures ok { IfOk result (λ iter. Ranges self.now.core index.entry Unbounded Unbounded snapshot iter.left) }
-        ensures held { IfOk result (λ iter. Copies self.now.core index.entry Unbounded Unbounded snapshot iter.held) }
-        ensures refuses { RefusesRead self.now.core snapshot result }
+        ensures { ReadsRange self.now.core index.entry Unbounded Unbounded snapshot result }
     {
         self.create_internal_range(&ALL, snapshot, index)
     }
@@ -332,9 +318,7 @@ impl<S: Store> TreeState<S> {
         snapshot: SeqNo,
         index: Option<(&Memtable, SeqNo)>,
     ) -> Result<TreeIter, Error>
-        ensures ok { IfOk result (λ iter. Ranges self.now.core index.entry Unbounded Unbounded snapshot iter.left) }
-        ensures held { IfOk result (λ iter. Copies self.now.core index.entry Unbounded Unbounded snapshot iter.held) }
-        ensures refuses { RefusesRead self.now.core snapshot result }
+        ensures { ReadsRange self.now.core index.entry Unbounded Unbounded snapshot result }
     {
         self.create_internal_range(&ALL, snapshot, index)
     }
@@ -346,10 +330,7 @@ impl<S: Store> TreeState<S> {
         snapshot: SeqNo,
         index: Option<(&Memtable, SeqNo)>,
     ) -> Result<TreeIter, Error>
-        ensures ok { IfOk result (λ iter. Prefixes self.now.core index.entry prefix.now snapshot iter.left) }
-        ensures held { IfOk result (λ iter. CopiesPrefix self.now.core index.entry prefix.now snapshot iter.held) }
-        ensures step { index.entry ≡ None → IfOk result (λ iter. IsPrefixStep self.now.core prefix.now snapshot iter.left) }
-        ensures refuses { RefusesRead self.now.core snapshot result }
+        ensures { ReadsPrefix self.now.core index.entry prefix.now snapshot result }
     {
         lists_are_steps();
         match self.version_at(snapshot) {
@@ -372,18 +353,14 @@ impl<S: Store> TreeState<S> {
         snapshot: SeqNo,
         index: Option<(&Memtable, SeqNo)>,
     ) -> Result<TreeIter, Error>
-        ensures ok { IfOk result (λ iter. Prefixes self.now.core index.entry prefix.now snapshot iter.left) }
-        ensures held { IfOk result (λ iter. CopiesPrefix self.now.core index.entry prefix.now snapshot iter.held) }
-        ensures step { index.entry ≡ None → IfOk result (λ iter. IsPrefixStep self.now.core prefix.now snapshot iter.left) }
-        ensures refuses { RefusesRead self.now.core snapshot result }
+        ensures { ReadsPrefix self.now.core index.entry prefix.now snapshot result }
     {
         self.create_prefix(prefix, snapshot, index)
     }
 
     /// How many keys a snapshot shows. It walks over all of them as `pairs` does.
     pub fn len(&self, snapshot: SeqNo, index: Option<(&Memtable, SeqNo)>) -> Result<usize, Error>
-        ensures ok { IfOk result (Numbers self.now.core index.entry snapshot) }
-        ensures refuses { RefusesRead self.now.core snapshot result }
+        ensures { Reads (Numbers self.now.core index.entry snapshot) self.now.core snapshot result }
     {
         match self.version_at(snapshot) {
             Ok(version) => count_of(self.alloc, &self.memtables, version, snapshot, index),
@@ -397,8 +374,7 @@ impl<S: Store> TreeState<S> {
         snapshot: SeqNo,
         index: Option<(&Memtable, SeqNo)>,
     ) -> Result<bool, Error>
-        ensures ok { IfOk result (TellsEmpty Front self.now.core index.entry snapshot) }
-        ensures refuses { RefusesRead self.now.core snapshot result }
+        ensures { Reads (TellsEmpty Front self.now.core index.entry snapshot) self.now.core snapshot result }
     {
         match self.pairs(&ALL, snapshot, index) {
             Ok(pairs) => Ok(is_over(pairs)),
@@ -413,8 +389,7 @@ impl<S: Store> TreeState<S> {
         snapshot: SeqNo,
         index: Option<(&Memtable, SeqNo)>,
     ) -> Result<Option<Guard>, Error>
-        ensures ok { IfOk result (PairAt Front self.now.core index.entry snapshot) }
-        ensures refuses { RefusesRead self.now.core snapshot result }
+        ensures { Reads (PairAt Front self.now.core index.entry snapshot) self.now.core snapshot result }
     {
         self.end_pair(End::Front, snapshot, index)
     }
@@ -425,8 +400,7 @@ impl<S: Store> TreeState<S> {
         snapshot: SeqNo,
         index: Option<(&Memtable, SeqNo)>,
     ) -> Result<Option<Guard>, Error>
-        ensures ok { IfOk result (PairAt Back self.now.core index.entry snapshot) }
-        ensures refuses { RefusesRead self.now.core snapshot result }
+        ensures { Reads (PairAt Back self.now.core index.entry snapshot) self.now.core snapshot result }
     {
         self.end_pair(End::Back, snapshot, index)
     }
@@ -438,8 +412,7 @@ impl<S: Store> TreeState<S> {
         snapshot: SeqNo,
         index: Option<(&Memtable, SeqNo)>,
     ) -> Result<Option<Guard>, Error>
-        ensures ok { IfOk result (PairAt end self.now.core index.entry snapshot) }
-        ensures refuses { RefusesRead self.now.core snapshot result }
+        ensures { Reads (PairAt end self.now.core index.entry snapshot) self.now.core snapshot result }
     {
         match self.end_entry(end, snapshot, index) {
             Ok(Some(entry)) => Ok(Some(Guard::of_entry(entry))),
@@ -455,8 +428,7 @@ impl<S: Store> TreeState<S> {
         snapshot: SeqNo,
         index: Option<(&Memtable, SeqNo)>,
     ) -> Result<Option<InternalValue>, Error>
-        ensures ok { IfOk result (EndOf end self.now.core index.entry snapshot) }
-        ensures refuses { RefusesRead self.now.core snapshot result }
+        ensures { Reads (EndOf end self.now.core index.entry snapshot) self.now.core snapshot result }
     {
         match self.version_at(snapshot) {
             Ok(version) => end_of(self.alloc, &self.memtables, version, end, snapshot, index),

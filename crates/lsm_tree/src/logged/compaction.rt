@@ -7,7 +7,7 @@ ghost use Rattle.lsm_state.specs.Files.{BeginsFiles, CompactsFiles, FinishesFile
 ghost use Rattle.lsm_tree.specs.Shared.{OnSomeLogged, TouchesTreeAlone, OnSomeLoggedFiles};
 ghost use Rattle.lsm_tree.specs.Gates.{IsNoJob, EndsGatedLogged, CompactsGatedLogged};
 
-use crate::gate::{Gate, told_end};
+use crate::gate::{Gate, follow, told_end};
 use crate::handle::Handle;
 use crate::lock::act;
 use lsm_below::SeqNo;
@@ -122,16 +122,13 @@ impl<S: Store> Handle<Logged<S>> {
     ) -> Result<Begun, Error>
         ensures { OnSomeLoggedFiles S.tells S.world (BeginsFiles result) (λ old new. Asks result old new (BeginsCompaction (may_choose strategy.now) (may_refuse strategy.now) (options_at watermark old.core) result old.core new.core)) }
     {
-        let mut tree = self.shared.lock(rt);
-        let tree = &mut *tree;
-        tree.facts();
-        let options = Options {
-            mvcc_gc_watermark: watermark,
-            moment: tree.tree().moment(),
-        };
-        let told = tree.begin_compaction(strategy, options);
-        tree.facts();
-        told
+        act!(self, rt, |tree| {
+            let options = Options {
+                mvcc_gc_watermark: watermark,
+                moment: tree.tree().moment(),
+            };
+            tree.begin_compaction(strategy, options)
+        })
     }
 
     /// Ends the merge of a job: finishes what a gate did, and gives up what it gave back.
@@ -171,13 +168,8 @@ impl<S: Store> Handle<Logged<S>> {
         ensures gated { CompactsGatedLogged S.tells S.world (may_choose strategy.now) (may_refuse strategy.now) watermark result }
         ensures no_job { IsNoJob result }
     {
-        match self.begin_at(rt, strategy, watermark) {
-            Ok(Begun::Job(job)) => self.end_gated(rt, gate.pass(job)),
-            Ok(Begun::DidNothing) => Ok(Begun::DidNothing),
-            Ok(Begun::Declined(why)) => Ok(Begun::Declined(why)),
-            Ok(Begun::Installed) => Ok(Begun::Installed),
-            Err(error) => Err(error),
-        }
+        let begun = self.begin_at(rt, strategy, watermark);
+        follow!(begun, |job| self.end_gated(rt, gate.pass(job)))
     }
 
     /// Merges all tables into the last level, as `Logged::major_compact`. The lock is held throughout.

@@ -7,7 +7,7 @@ ghost use Rattle.lsm_state.specs.Files.{BeginsFiles, CompactsFiles, FinishesFile
 ghost use Rattle.lsm_tree.specs.Shared.{OnSomeTreeAlone, AtSomeTree, OnSomeTreeFiles};
 ghost use Rattle.lsm_tree.specs.Gates.{IsNoJob, EndsGated, CompactsGated};
 
-use crate::gate::{Gate, told_end};
+use crate::gate::{Gate, follow, told_end};
 use crate::handle::Handle;
 use crate::lock::{act, read};
 use lsm_below::SeqNo;
@@ -107,16 +107,13 @@ impl<S: Store> Handle<TreeState<S>> {
     ) -> Result<Begun, Error>
         ensures { OnSomeTreeFiles S.tells S.world (BeginsFiles result) (λ old new. BeginsCompaction (may_choose strategy.now) (may_refuse strategy.now) (options_at watermark old) result old new) }
     {
-        let mut tree = self.shared.lock(rt);
-        let tree = &mut *tree;
-        tree.facts();
-        let options = Options {
-            mvcc_gc_watermark: watermark,
-            moment: tree.moment(),
-        };
-        let told = tree.begin_compaction(strategy, options);
-        tree.facts();
-        told
+        act!(self, rt, |tree| {
+            let options = Options {
+                mvcc_gc_watermark: watermark,
+                moment: tree.moment(),
+            };
+            tree.begin_compaction(strategy, options)
+        })
     }
 
     /// Ends the merge of a job: finishes what a gate did, and gives up what it gave back.
@@ -164,13 +161,8 @@ impl<S: Store> Handle<TreeState<S>> {
         ensures gated { CompactsGated S.tells S.world (may_choose strategy.now) (may_refuse strategy.now) watermark result }
         ensures no_job { IsNoJob result }
     {
-        match self.begin_at(rt, strategy, watermark) {
-            Ok(Begun::Job(job)) => self.end_gated(rt, gate.pass(job)),
-            Ok(Begun::DidNothing) => Ok(Begun::DidNothing),
-            Ok(Begun::Declined(why)) => Ok(Begun::Declined(why)),
-            Ok(Begun::Installed) => Ok(Begun::Installed),
-            Err(error) => Err(error),
-        }
+        let begun = self.begin_at(rt, strategy, watermark);
+        follow!(begun, |job| self.end_gated(rt, gate.pass(job)))
     }
 
     /// Merges all tables into the last level, as `TreeState::major_compact`. The lock is held throughout.

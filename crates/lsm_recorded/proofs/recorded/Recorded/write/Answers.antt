@@ -1,10 +1,8 @@
-use Rattle.std.proofs.Common.{◌≡◌, subst, false, ◌↔◌, IsErrOf, OnOk}
+use Rattle.std.proofs.Common.{◌≡◌, refl, subst, false, ◌↔◌, IsErrOf, rules}
 use Rattle.lsm_below.specs.declared.error.Error.TheVariants.{OutOfOrder}
 use Rattle.lsm_model.specs.Views.{held}
 use Rattle.lsm_versions.specs.Levels.{placed_of}
 use Rattle.lsm_recorded.specs.Marks.{mark_of}
-use Rattle.lsm_recorded.specs.Order.{batch_keeps_order}
-use Rattle.lsm_recorded.specs.Recorded.{StaysTo}
 use Rattle.lsm_recorded.proofs.BatchLemmas.{allowed_order}
 use Rattle.lsm_recorded.proofs.RecordedLemmas.{batch_any, batch_any_spares}
 use Rattle.lsm_recorded.proofs.recorded.Recorded.write.Goals as goal
@@ -15,17 +13,19 @@ invariant_of-self g c =
     let a = c.write_marked.ensures in
     batch_any (placed_of i.opened.levels) i.least c.reads_are_sound.ensures c.write_marked.result i.core c.write_marked.new.core i.marks c.write_marked.new.marks i.floor i.journal.items c.write_marked.new.journal.items c.pass.inside.entries.items c.write_marked.new.pass.items c.args.ops.items c.self.invariant a.out_of_order a.core a.marks a.unmarked a.noted a.err
 
-pub returns-clause-out_of_order : goal.returns-clause-out_of_order
-returns-clause-out_of_order g c =
-    let i = c.self.inside in
-    let opened = placed_of i.opened.levels in
-    let told = allowed_order (held opened) i.journal.items i.core.core.seqno (mark_of i.marks) i.floor c.args.ops.items c.self.invariant.noted c.self.invariant.floored in
-    subst (λ t. IsErrOf c.write_marked.result OutOfOrder ↔ (batch_keeps_order (held t.opened) t.journal t.tree.core.seqno c.args.ops.items ≡ false)) c.self.view_is
-    (subst (λ b. IsErrOf c.write_marked.result OutOfOrder ↔ (b ≡ false)) told c.write_marked.ensures.out_of_order)
-
-pub returns-clause-views : goal.returns-clause-views
-returns-clause-views g c =
+pub returns : goal.returns
+returns g c =
     let i = c.self.inside in
     let a = c.write_marked.ensures in
-    subst (λ t. OnOk c.write_marked.result (StaysTo t.tree.core.seqno t.tree.core c.write_marked.new.core.core)) c.self.view_is
-    (batch_any_spares (placed_of i.opened.levels) i.least c.reads_are_sound.ensures c.write_marked.result i.core.core c.write_marked.new.core.core i.marks i.floor i.journal.items c.args.ops.items c.self.invariant a.out_of_order a.core)
+    let r = c.write_marked.result in
+    let opened = placed_of i.opened.levels in
+    let told = allowed_order (held opened) i.journal.items i.core.core.seqno (mark_of i.marks) i.floor c.args.ops.items c.self.invariant.noted c.self.invariant.floored in
+    rw (← c.self.view_is, ← c.pass.view_is) (record {
+      out_of_order = subst (λ b. IsErrOf r OutOfOrder ↔ (b ≡ false)) told a.out_of_order;
+      core = a.core;
+      noted = a.noted;
+      views = batch_any_spares opened i.least c.reads_are_sound.ensures r i.core.core c.write_marked.new.core.core i.marks i.floor i.journal.items c.args.ops.items c.self.invariant a.out_of_order a.core;
+      store = a.store;
+      opened = refl;
+      err = search rules;
+    })

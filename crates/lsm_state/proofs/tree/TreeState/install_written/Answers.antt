@@ -1,13 +1,11 @@
-use Rattle.std.proofs.Common.{Ok, Err, sym, ap, ◌∙◌, subst, ◌<◌, ◌≤◌, ◌^◌, rules, arith}
-use Rattle.std.specs.List.{AllByRecursion}
-use Rattle.lsm_tables.specs.Tables.{SeenTable}
+use Rattle.std.proofs.Common.{Ok, Err, sym, ap, ◌∙◌, subst, ◌<◌, ◌^◌, rules, arith}
 use Rattle.lsm_versions.specs.Refusals.{IsRefusedFor}
 use Rattle.lsm_commit.specs.Stored.{AreOnDisk}
 use Rattle.lsm_state.specs.Core.{versions_left}
 use Rattle.lsm_state.specs.Settling.{Settles}
-use Rattle.lsm_state.specs.Compactions.{IsMergedInto}
 use Rattle.lsm_state.proofs.WholeFlushes.{upholds_behind}
-use Rattle.lsm_state.proofs.Merges.{unwritten, unmade, unsettled, settled}
+use Rattle.lsm_state.specs.Flushes.{with_next_table}
+use Rattle.lsm_state.proofs.Merges.{unwritten, unmade, unsettled, settled, merged_from}
 use Rattle.lsm_state.proofs.tree.TreeState.install_written.Goals as goal
 
 pub returns-in-Err-clause-installs : goal.returns-in-Err-clause-installs
@@ -35,27 +33,19 @@ returns-in-Ok-settle-clause-upholds g c tells =
 pub returns-in-Ok-settle-clause-installs : goal.returns-in-Ok-settle-clause-installs
 returns-in-Ok-settle-clause-installs g c =
     let m = c.write_merged in
-    let job = c.args.merged.now.job in
     let v = c.in-Ok-version_merged.version in
-    let first = c.args.self.now.core.next_table in
-    let fresh = subst (AllByRecursion (λ (t : SeenTable). first ≤ t.id)) (sym c.deref.ensures.value) c.in-Ok.ensures.fresh in
-    let of_job = subst (λ j. IsMergedInto first j m.new.self.core.history.latest.version v) c.job-job.ensures (c.in-Ok-version_merged.ensures.made first fresh) in
-    let made = subst (λ k. IsMergedInto first job k.history.latest.version v) m.ensures.core of_job in
+    let made = merged_from c.args.self.now.core.next_table c.deref.result.now c.in-Ok.tables.items v c.job-job.result.now c.args.merged.now.job m.new.self.core (with_next_table m.new.self.core.next_table c.args.self.now.core) c.deref.ensures.value c.in-Ok.ensures.fresh c.in-Ok-version_merged.ensures.made c.job-job.ensures m.ensures.core in
     let settles = subst (λ n. Settles v n (Ok tt) m.new.self.core c.settle.new.self.core) (ap (λ t. t.watermark) (c.settings.ensures ∙ ap (λ j. j.settings) c.job-job.ensures)) c.in-Ok-settle.ensures.settles in
-    settled job c.args.self.now.core c.settle.new.self.core m.new.self.core v m.ensures.rises m.ensures.draws m.ensures.core made settles.ok
+    settled c.args.merged.now.job c.args.self.now.core c.settle.new.self.core m.new.self.core v m.ensures.rises m.ensures.draws m.ensures.core made settles.ok
 
 pub returns-clause-installs : goal.returns-clause-installs
 returns-clause-installs g c =
     let m = c.write_merged in
-    let job = c.args.merged.now.job in
     let v = c.in-Ok-version_merged.version in
-    let first = c.args.self.now.core.next_table in
-    let fresh = subst (AllByRecursion (λ (t : SeenTable). first ≤ t.id)) (sym c.deref.ensures.value) c.in-Ok.ensures.fresh in
-    let of_job = subst (λ j. IsMergedInto first j m.new.self.core.history.latest.version v) c.job-job.ensures (c.in-Ok-version_merged.ensures.made first fresh) in
-    let made = subst (λ k. IsMergedInto first job k.history.latest.version v) m.ensures.core of_job in
+    let made = merged_from c.args.self.now.core.next_table c.deref.result.now c.in-Ok.tables.items v c.job-job.result.now c.args.merged.now.job m.new.self.core (with_next_table m.new.self.core.next_table c.args.self.now.core) c.deref.ensures.value c.in-Ok.ensures.fresh c.in-Ok-version_merged.ensures.made c.job-job.ensures m.ensures.core in
     let end = c.in-Err-settle in
     let settles = subst (λ n. Settles v n (Err end.error) m.new.self.core c.settle.new.self.core) (ap (λ t. t.watermark) (c.settings.ensures ∙ ap (λ j. j.settings) c.job-job.ensures)) end.ensures.settles in
-    unsettled job end.error c.args.self.now.core c.settle.new.self.core m.new.self.core v m.ensures.rises m.ensures.draws m.ensures.core made settles
+    unsettled c.args.merged.now.job end.error c.args.self.now.core c.settle.new.self.core m.new.self.core v m.ensures.rises m.ensures.draws m.ensures.core made settles
 
 pub returns-clause-upholds : goal.returns-clause-upholds
 returns-clause-upholds g c tells =

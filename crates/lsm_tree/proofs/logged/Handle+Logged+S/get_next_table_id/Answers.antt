@@ -1,12 +1,13 @@
--- The tree before and after the call is the one that the lock guards.
-use Rattle.std.proofs.Common.{◌≡◌}
-use Rattle.lsm_tree.proofs.Closing.{if_on}
+-- The tree that gives the id is the one that the lock guards.
+use Rattle.std.proofs.Common.{◌+◌, ap}
+use Rattle.lsm_state.specs.Calls.{Draws}
+use Rattle.lsm_state.specs.Flushes.{with_next_table}
+use Rattle.lsm_tree.proofs.Closing.{refused_more}
 use Rattle.lsm_tree.proofs.logged.Handle+Logged+S.get_next_table_id.Goals as goal
 
-pub returns-clause-draws : goal.returns-clause-draws
-returns-clause-draws g c =
-    let old = c.deref_mut-tree.result.now in
+pub returns : goal.returns
+returns g c =
     let told = c.get_next_table_id-told in
-    let new = told.new.self in
-    if_on told.result (λ id. id ≡ old.core.next_table) _ _ (λ id is used. (old, new, record { call = (is, used); store = told.ensures.store; numbers = told.ensures.log.0; doubt = told.ensures.log.1 }, c.facts.ensures, c.facts-2.ensures))
-    told.ensures.ok told.ensures.used
+    let same = refused_more told.result _ _ (ap (λ t. t.core)) told.ensures.err in
+    let draws : Draws (λ t. t.next_table) (λ t. with_next_table (t.next_table + 1) t) told.result c.deref_mut-tree.result.now.core told.new.self.core = record { ok = told.ensures.ok; used = told.ensures.used; err = same; out_of_numbers = told.ensures.out_of_numbers; only = told.ensures.only } in
+    (c.deref_mut-tree.result.now, told.new.self, record { call = draws; store = told.ensures.store; numbers = told.ensures.log.0; doubt = told.ensures.log.1 }, c.facts.ensures, c.facts-2.ensures)
