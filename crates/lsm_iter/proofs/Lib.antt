@@ -16,4 +16,4 @@ pub mod Joined
 pub mod Disjoint
 pub mod Touched
 pub mod Walks
-pub mod Lendings
+pub mod OfParts

@@ -1,5 +1,5 @@
 -- Cursors for sources, one after the other.
-use Rattle.std.proofs.Common.{◌≡◌, ℕ, ◌+◌, ◌<◌, get_or, take, drop, Bor, Option, option_to_list, List, [], ◌∷◌, ◌++◌, length, map, flat_map, ◌&&◌, refl, sym, ap, ◌∙◌, subst, arith, append-nil, append_assoc, ltb}
+use Rattle.std.proofs.Common.{◌≡◌, ℕ, ◌+◌, ◌<◌, get_or, take, drop, Bor, Option, option_to_list, Bool, true, false, cond, List, [], ◌∷◌, ◌++◌, length, map, flat_map, ◌&&◌, refl, sym, ap, ◌∙◌, subst, arith, append-nil, append_assoc, ltb}
 use Rattle.std.specs.List.{All, AllByRecursion}
 use Rattle.std.specs.declared.ops.Bound.{Bound}
 use Rattle.std.proofs.lemmas.Grind.{flat_map-append}
@@ -9,7 +9,7 @@ use Rattle.std.proofs.lemmas.List.Sums.{sum_by-append}
 use Rattle.std.proofs.lemmas.List.Elements.{All-append, All-map, All-weaker, All-nil, All-cons, All-head, All-tail, All-from_recursion, recursion_from_All, filter-append}
 use Rattle.lsm_below.specs.Each.{each_left, each_right, each_both}
 use Rattle.lsm_below.specs.Keys.{Bytes}
-use Rattle.lsm_below.specs.Entries.{entry_cmp, stack, HasBytes}
+use Rattle.lsm_below.specs.Entries.{Entry, entry_cmp, stack, HasBytes}
 use Rattle.lsm_below.specs.Streams.{is_of}
 use Rattle.lsm_below.specs.Sorted.{Rises}
 use Rattle.lsm_below.specs.Laws.{EntriesAreOrdered, MergesByKey}
@@ -22,12 +22,12 @@ use Rattle.lsm_memtable.specs.Memtables.{SeenMemtable}
 use Rattle.lsm_iter.specs.Reads as reads
 use Rattle.lsm_iter.specs.Reads.{Part, at, parts_at, state_of, index_of, counted, all_counted, cut}
 use Rattle.lsm_iter.specs.Shown.{Shows}
-use Rattle.lsm_iter.specs.Left.{SeenCursor, copied, copied_within, left_of, held_in, newest_in, shown_list}
-use Rattle.lsm_iter.specs.Puts.{AddsCursors, PutsCursors, number_copied}
+use Rattle.lsm_iter.specs.Left.{SeenCursor, copied, copies, copied_within, left_of, held_in, newest_in, shown_list}
+use Rattle.lsm_iter.specs.Puts.{AddsCursors, PutsCursors, number_copied, owned_of}
 use Rattle.lsm_iter.specs.Shared.{IsSound}
 use Rattle.lsm_iter.proofs.Rises.{rises_filter}
 use Rattle.lsm_iter.proofs.Shown.{filter_swap}
-use Rattle.lsm_iter.proofs.Newest.{newer, newest_append, shows_same}
+use Rattle.lsm_iter.proofs.Newest.{newer, newest_append, shown_all, shows_same}
 use Rattle.lsm_iter.proofs.Firsts.{tops_newest}
 
 module _ (low high : Bound Bytes) where
@@ -41,26 +41,9 @@ module _ (low high : Bound Bytes) where
     rise = All-append rises parts more h.rise k.rise;
   }
 
-  left_one : (old new : List SeenCursor) (c : SeenCursor) → new ≡ old ++ c ∷ [] → left_of new ≡ left_of old ++ c.left
-  left_one old new c pushed = ap left_of pushed ∙ flat_map-append (λ x. x.left) old (c ∷ []) ∙ ap (λ l. left_of old ++ l) (append-nil c.left)
-
-  -- one cursor more
-  pub adds_one : (part : Part) (n : ℕ) (old new : List SeenCursor) (c : SeenCursor) → new ≡ old ++ c ∷ [] → c ≡ record { left = copied low high part; held = n } → rises part → AddsCursors low high (part ∷ []) n old new
-  adds_one part n old new c pushed is rise = record {
-    left = left_one old new c pushed ∙ ap (λ l. left_of old ++ l) (ap (λ x. x.left) is ∙ sym (append-nil (copied low high part)));
-    held = (let sum = ap held_in pushed ∙ sum_by-append (λ x. x.held) old (c ∷ []) ∙ ap (λ x. held_in old + held_in (x ∷ [])) is in omega arith);
-    rise = All-cons rises part [] rise (All-nil rises);
-  }
-
   -- the same, with the bytes of keys
   pub puts_then : (parts more : List Part) (n m : ℕ) (a b c : List SeenCursor) → PutsCursors low high parts n a b → PutsCursors low high more m b c → PutsCursors low high (parts ++ more) (n + m) a c
   puts_then parts more n m a b c h k = record { adds = adds_then parts more n m a b c h.adds k.adds; bytes = λ all. k.bytes (h.bytes all) }
-
-  bytes_one : (old new : List SeenCursor) (c : SeenCursor) → new ≡ old ++ c ∷ [] → All HasBytes c.left → All HasBytes (left_of old) → All HasBytes (left_of new)
-  bytes_one old new c pushed bytes all = subst (All HasBytes) (sym (left_one old new c pushed)) (All-append HasBytes (left_of old) c.left all bytes)
-
-  pub puts_one : (part : Part) (n : ℕ) (old new : List SeenCursor) (c : SeenCursor) → new ≡ old ++ c ∷ [] → c ≡ record { left = copied low high part; held = n } → rises part → All HasBytes c.left → PutsCursors low high (part ∷ []) n old new
-  puts_one part n old new c pushed is rise bytes = record { adds = adds_one part n old new c pushed is rise; bytes = bytes_one old new c pushed bytes }
 
   -- ---- what they show
 
@@ -82,33 +65,24 @@ module _ (low high : Bound Bytes) where
     pub copies_show : MapsAreRead → (parts : List Part) → All rises parts → Shows low high (all_counted parts) (shown_list (flat_map (copied low high) parts))
     copies_show maps parts h = shows_same maps low high (all_counted parts) (flat_map (copied low high) parts) (copies_newest parts h)
 
--- ---- copies of memtables, one after the other
+-- ---- memtables, one after the other
 
 number_append : (low high : Bound Bytes) (xs ys : List Part) → number_copied low high (xs ++ ys) ≡ number_copied low high xs + number_copied low high ys
 number_append low high xs ys = ap length (flat_map-append (copied low high) xs ys) ∙ length-append (flat_map (copied low high) xs) (flat_map (copied low high) ys)
 
-number_more : (low high : Bound Bytes) (xs : List Part) (p : Part) → number_copied low high (xs ++ p ∷ []) ≡ number_copied low high xs + length (copied low high p)
-number_more low high xs p = number_append low high xs (p ∷ []) ∙ ap (λ l. number_copied low high xs + length l) (append-nil (copied low high p))
+owned_append : (copy : Bool) (low high : Bound Bytes) (xs ys : List Part) → owned_of copy low high (xs ++ ys) ≡ owned_of copy low high xs + owned_of copy low high ys
+owned_append true low high xs ys = number_append low high xs ys
+owned_append false low high xs ys = refl
 
-pub memtable_copied : (low high : Bound Bytes) (s : ℕ) (ms : List (Bor SeenMemtable)) (i : ℕ) (m : Bor SeenMemtable) (a b c : List SeenCursor) → i < length ms → m ≡ get_or ms i m
-    → PutsCursors low high (map (λ m. at s m.now.entries) (take i ms)) (number_copied low high (map (λ m. at s m.now.entries) (take i ms))) a b → PutsCursors low high (at s m.now.entries ∷ []) (length (copied low high (at s m.now.entries))) b c
-    → PutsCursors low high (map (λ m. at s m.now.entries) (take (i + 1) ms)) (number_copied low high (map (λ m. at s m.now.entries) (take (i + 1) ms))) a c
-memtable_copied low high s ms i m a b c lt is h k =
+pub memtable_put : (copy : Bool) (low high : Bound Bytes) (s : ℕ) (ms : List (Bor SeenMemtable)) (i : ℕ) (m : Bor SeenMemtable) (a b c : List SeenCursor) → i < length ms → m ≡ get_or ms i m
+    → PutsCursors low high (map (λ m. at s m.now.entries) (take i ms)) (owned_of copy low high (map (λ m. at s m.now.entries) (take i ms))) a b → PutsCursors low high (at s m.now.entries ∷ []) (owned_of copy low high (at s m.now.entries ∷ [])) b c
+    → PutsCursors low high (map (λ m. at s m.now.entries) (take (i + 1) ms)) (owned_of copy low high (map (λ m. at s m.now.entries) (take (i + 1) ms))) a c
+memtable_put copy low high s ms i m a b c lt is h k =
     let f = λ (m : Bor SeenMemtable). at s m.now.entries in
-    let more : map f (take (i + 1) ms) ≡ map f (take i ms) ++ f m ∷ [] = map_more f ms i m lt ∙ ap (λ x. map f (take i ms) ++ f x ∷ []) (sym is) in
-    let number : number_copied low high (map f (take i ms) ++ f m ∷ []) ≡ number_copied low high (map f (take i ms)) + length (copied low high (f m)) =
-    number_more low high (map f (take i ms)) (f m) in
-    subst (λ parts. PutsCursors low high parts (number_copied low high parts) a c) (sym more)
-    (subst (λ n. PutsCursors low high (map f (take i ms) ++ f m ∷ []) n a c) (sym number) (puts_then low high (map f (take i ms)) (f m ∷ []) (number_copied low high (map f (take i ms))) (length (copied low high (f m))) a b c h k))
-
--- ---- memtables that are lent, one after the other
-
-pub memtable_lent : (low high : Bound Bytes) (s : ℕ) (ms : List (Bor SeenMemtable)) (i : ℕ) (m : Bor SeenMemtable) (a b c : List SeenCursor) → i < length ms → m ≡ get_or ms i m
-    → PutsCursors low high (map (λ m. at s m.now.entries) (take i ms)) 0 a b → PutsCursors low high (at s m.now.entries ∷ []) 0 b c → PutsCursors low high (map (λ m. at s m.now.entries) (take (i + 1) ms)) 0 a c
-memtable_lent low high s ms i m a b c lt is h k =
-    let f = λ (m : Bor SeenMemtable). at s m.now.entries in
-    let more : map f (take (i + 1) ms) ≡ map f (take i ms) ++ f m ∷ [] = map_more f ms i m lt ∙ ap (λ x. map f (take i ms) ++ f x ∷ []) (sym is) in
-    subst (λ parts. PutsCursors low high parts 0 a c) (sym more) (puts_then low high (map f (take i ms)) (f m ∷ []) 0 0 a b c h k)
+    let front = map f (take i ms) in
+    let more : map f (take (i + 1) ms) ≡ front ++ f m ∷ [] = map_more f ms i m lt ∙ ap (λ x. front ++ f x ∷ []) (sym is) in
+    subst (λ parts. PutsCursors low high parts (owned_of copy low high parts) a c) (sym more)
+    (subst (λ n. PutsCursors low high (front ++ f m ∷ []) n a c) (sym (owned_append copy low high front (f m ∷ []))) (puts_then low high front (f m ∷ []) (owned_of copy low high front) (owned_of copy low high (f m ∷ [])) a b c h k))
 
 -- ---- runs of tables, one after the other
 
@@ -121,17 +95,35 @@ tables_left low high s ts = sym (flat_map-map (copied low high) (part_at s) ts)
 pub tables_rise : (low high : Bound Bytes) (s : ℕ) (ts : List SeenTable) → All (λ t. Rises entry_cmp t.entries) ts → All (rises low high) (map (part_at s) ts)
 tables_rise low high s ts h = All-map (rises low high) (part_at s) ts (All-weaker (λ t. Rises entry_cmp t.entries) (λ t. Rises entry_cmp (within low high t.entries)) (λ t r. rises_filter entry_cmp (λ e. is_from low e.key.user_key && is_to high e.key.user_key) t.entries r) ts h)
 
--- a cursor over a run
-pub puts_run : (low high : Bound Bytes) (s : ℕ) (run : List SeenTable) (old new : List SeenCursor) (c : SeenCursor) → new ≡ old ++ c ∷ [] → c.left ≡ flat_map (λ t. copied low high (at s t.entries)) run → c.held ≡ 0 → All (λ t. Rises entry_cmp t.entries) run → All HasBytes c.left
-    → PutsCursors low high (map (part_at s) run) 0 old new
-puts_run low high s run old new c pushed is held rise bytes = record {
-  adds = record {
-    left = left_one low high old new c pushed ∙ ap (λ l. left_of old ++ l) (is ∙ tables_left low high s run);
-    held = (let sum = ap held_in pushed ∙ sum_by-append (λ x. x.held) old (c ∷ []) in omega (arith, held));
-    rise = tables_rise low high s run rise;
-  };
-  bytes = bytes_one low high old new c pushed bytes;
-}
+-- what one reader puts: a part of a memtable, or a run
+module _ (low high : Bound Bytes) (old new : List SeenCursor) (c : SeenCursor) (left : left_of new ≡ left_of old ++ c.left) (held : held_in new ≡ held_in old + c.held) (bytes : All HasBytes c.left) where
+  puts_parts : (parts : List Part) (n : ℕ) → c.left ≡ copies low high parts → c.held ≡ n → All (rises low high) parts → PutsCursors low high parts n old new
+  puts_parts parts n is owns rise = record {
+    adds = record { left = left ∙ ap (λ l. left_of old ++ l) is; held = held ∙ ap (λ k. held_in old + k) owns; rise = rise };
+    bytes = λ all. subst (All HasBytes) (sym left) (All-append HasBytes (left_of old) c.left all bytes);
+  }
+
+  pub puts_part : (copy : Bool) (part : Part) → c.left ≡ copied low high part → c.held ≡ cond copy (length c.left) 0 → rises low high part → PutsCursors low high (part ∷ []) (owned_of copy low high (part ∷ [])) old new
+  puts_part copy part is owns rise =
+      puts_parts (part ∷ []) (owned_of copy low high (part ∷ [])) (is ∙ sym (append-nil (copied low high part))) (owns ∙ ap (λ l. cond copy (length l) 0) (is ∙ sym (append-nil (copied low high part))))
+      (All-cons (rises low high) part [] rise (All-nil (rises low high)))
+
+  pub puts_run : (s : ℕ) (run : List SeenTable) → c.left ≡ flat_map (λ t. copied low high (at s t.entries)) run → c.held ≡ 0 → All IsSound run → PutsCursors low high (map (part_at s) run) 0 old new
+  puts_run s run is owns sound = puts_parts (map (part_at s) run) 0 (is ∙ tables_left low high s run) owns (tables_rise low high s run (All-weaker IsSound (λ t. Rises entry_cmp t.entries) (λ t h. h.rises) run sound))
+
+-- a reader of which nothing is left owns nothing
+pub none_owned : (copy : Bool) (l : List Entry) → l ≡ [] → cond copy (length l) 0 ≡ 0
+none_owned copy (e ∷ l) none = absurd (cc none)
+none_owned true [] none = refl
+none_owned false [] none = refl
+
+-- one reader more
+module _ {R : Type 0} (seen : R → SeenCursor) (old : List R) (r : R) where
+  pub left_pushed : left_of (map seen (old ++ r ∷ [])) ≡ left_of (map seen old) ++ (seen r).left
+  left_pushed = ap left_of (map-append seen old (r ∷ [])) ∙ flat_map-append (λ c. c.left) (map seen old) (seen r ∷ []) ∙ ap (λ l. left_of (map seen old) ++ l) (append-nil (seen r).left)
+
+  pub held_pushed : held_in (map seen (old ++ r ∷ [])) ≡ held_in (map seen old) + (seen r).held
+  held_pushed = let sum = ap held_in (map-append seen old (r ∷ [])) ∙ sum_by-append (λ c. c.held) (map seen old) (seen r ∷ []) in omega arith
 
 -- one run more, of a level or of all
 puts_more : (low high : Bound Bytes) (s : ℕ) (ts more all : List SeenTable) (a b c : List SeenCursor) → all ≡ ts ++ more → PutsCursors low high (map (part_at s) ts) 0 a b → PutsCursors low high (map (part_at s) more) 0 b c → PutsCursors low high (map (part_at s) all) 0 a c
@@ -211,12 +203,17 @@ module _ (low high : Bound Bytes) (s : ℕ) (version : SeenVersion) (memtables :
       let parts : top ++ (mid ++ under) ≡ all_parts = ap (λ l. top ++ l) (ap (λ l. l ++ under) (seen_parts s memtables) ∙ sym (map-append (at s) (map (λ m. m.now.entries) memtables) (reads.tables_of version))) in
       subst (λ l. AddsCursors low high l (n + (m + 0)) a d) parts (adds_then low high top (mid ++ under) n (m + 0) a b d h (adds_then low high mid under m 0 b c d k t))
 
-  pub puts_each : (n m : ℕ) → PutsCursors low high top n a b → PutsCursors low high mid m b c → PutsCursors low high under 0 c d → PutsCursors low high all_parts (n + (m + 0)) a d
-  puts_each n m h k t = record { adds = adds_all n m h.adds k.adds t.adds; bytes = λ all. t.bytes (k.bytes (h.bytes all)) }
+  pub puts_all : (copy : Bool) → PutsCursors low high top (owned_of copy low high top) a b → PutsCursors low high mid (owned_of copy low high mid) b c → PutsCursors low high under 0 c d
+      → PutsCursors low high all_parts (cond copy (copied_within low high s (state_of version memtables overlay)) 0) a d
+  puts_all copy h k t =
+      let owned : owned_of copy low high top + (owned_of copy low high mid + 0) ≡ owned_of copy low high (top ++ map (at s) (map (λ m. m.now.entries) memtables)) =
+      (let sum = owned_append copy low high top (map (at s) (map (λ m. m.now.entries) memtables)) in
+      let same : owned_of copy low high mid ≡ owned_of copy low high (map (at s) (map (λ m. m.now.entries) memtables)) = ap (owned_of copy low high) (seen_parts s memtables) in omega arith) in
+      subst (λ n. PutsCursors low high all_parts n a d) owned
+      (record { adds = adds_all (owned_of copy low high top) (owned_of copy low high mid) h.adds k.adds t.adds; bytes = λ all. t.bytes (k.bytes (h.bytes all)) })
 
-  pub puts_all : PutsCursors low high top (number_copied low high top) a b → PutsCursors low high mid (number_copied low high mid) b c → PutsCursors low high under 0 c d → PutsCursors low high all_parts (copied_within low high s (state_of version memtables overlay)) a d
-  puts_all h k t =
-      let owned : number_copied low high top + (number_copied low high mid + 0) ≡ copied_within low high s (state_of version memtables overlay) =
-      (let sum = number_append low high top (map (at s) (map (λ m. m.now.entries) memtables)) in
-      let same : number_copied low high mid ≡ number_copied low high (map (at s) (map (λ m. m.now.entries) memtables)) = ap (number_copied low high) (seen_parts s memtables) in omega arith) in
-      subst (λ n. PutsCursors low high all_parts n a d) owned (puts_each (number_copied low high top) (number_copied low high mid) h k t)
+-- what readers show of a state, and own
+pub readers_show : (entries : EntriesAreOrdered) (merging : MergesByKey) → MapsAreRead → (low high : Bound Bytes) (parts : List Part) (n : ℕ) (readers : List SeenCursor) → PutsCursors low high parts n [] readers
+    → Shows low high (all_counted parts) (shown_list (left_of readers)) × All HasBytes (shown_list (left_of readers)) × (held_in readers ≡ n)
+readers_show entries merging maps low high parts n readers puts =
+    (subst (λ l. Shows low high (all_counted parts) (shown_list l)) (sym puts.adds.left) (copies_show low high entries merging maps parts puts.adds.rise), shown_all HasBytes (left_of readers) (puts.bytes (All-nil HasBytes)), (let held = puts.adds.held in omega arith))

@@ -1,5 +1,5 @@
 -- Cursors for sources, one after the other.
-use Rattle.std.specs.Prelude.{◌≡◌, ℕ, ◌+◌, List, ◌++◌, length}
+use Rattle.std.specs.Prelude.{◌≡◌, ℕ, ◌+◌, Bool, cond, List, ◌++◌, length}
 use Rattle.std.specs.List.{All}
 use Rattle.std.specs.declared.ops.Bound.{Bound}
 use Rattle.lsm_below.specs.Keys.{Bytes}
@@ -12,6 +12,10 @@ use Rattle.lsm_iter.specs.Left.{SeenCursor, copies, left_of, held_in}
 -- how many entries are copied of these parts
 abbrev pub number_copied : Bound Bytes → Bound Bytes → List Part → ℕ
 number_copied low high parts = length (copies low high parts)
+
+-- how many entries readers own of these parts: all that are copied, where they copy
+abbrev pub owned_of : Bool → Bound Bytes → Bound Bytes → List Part → ℕ
+owned_of copy low high parts = cond copy (number_copied low high parts) 0
 
 -- cursors of what lies of these parts within bounds came after those that were there, and own so many entries
 pub record AddsCursors (low high : Bound Bytes) (parts : List Part) (owned : ℕ) (old new : List SeenCursor) : Type 0 where

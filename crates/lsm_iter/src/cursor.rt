@@ -12,8 +12,10 @@ ghost use Rattle.lsm_iter.specs.Shared.{IsSound};
 
 use crate::End;
 use crate::copies::Copies;
+use crate::parts::Parts;
 use crate::prefix::key_has_bytes;
-use crate::shared::Shared;
+use crate::sources::Reader;
+use crate::trim::Trim;
 use crate::walk::Walk;
 use lsm_below::{InternalValue, Run, SeqNo, UserKey, entries_are_ordered, merges_by_key};
 use lsm_memtable::{Iter, Span};
@@ -26,7 +28,7 @@ use std::ops::Bound;
 #[derive(Drop)]
 pub(crate) enum Held {
     Copied(Copies),
-    Shared(Shared),
+    Shared(Parts<Trim>),
 }
 
 /// What is left of a source: of each key the newest entry that counts, by rising key, from both ends.
@@ -129,12 +131,14 @@ fn take_in(end: End, held: &mut Held) -> Result<Option<InternalValue>, AllocErro
     Ok(value)
 }
 
-impl Cursor {
-    /// Copies of the newest entry of each key that counts, of a part of a memtable. Refused only for want of memory.
-    pub(crate) fn copied(alloc: Global, span: &Span<'_>, below: SeqNo) -> Result<Cursor, AllocError>
-        ensures is { IfOk result (λ c. c ≡ copies_of (at below span.now)) }
-        ensures bytes { IfOk result (λ c. All HasBytes c.left) }
-    {
+impl<'a> Reader<'a> for Cursor {
+    ghost use Rattle.std.specs.Prelude.{true};
+
+    ghost seen = { λ c. c };
+
+    ghost copies = { true };
+
+    fn of_span(alloc: Global, span: &Span<'a>, below: SeqNo) -> Result<Cursor, AllocError> {
         entries_are_ordered();
         merges_by_key();
         span.facts();
@@ -144,25 +148,25 @@ impl Cursor {
         })
     }
 
-    /// What lies of a run's tables within bounds, of which no entry is copied. Refused only for want of memory.
-    pub(crate) fn shared(
+    fn of_run(
         alloc: Global,
-        run: &Run<Table>,
+        run: &'a Run<Table>,
         bounds: &(Bound<UserKey>, Bound<UserKey>),
         below: SeqNo,
-    ) -> Result<Cursor, AllocError>
-        requires { All IsSound run.now }
-        ensures left { IfOk result (λ c. c.left ≡ flat_map (λ t. copied bounds.now.0 bounds.now.1 (at below t.entries)) run.now) }
-        ensures held { IfOk result (λ c. c.held ≡ 0) }
-        ensures bytes { IfOk result (λ c. All HasBytes c.left) }
-    {
-        let tables = Shared::new(alloc, run, bounds, below)?;
+    ) -> Result<Cursor, AllocError> {
+        let tables = Parts::<Trim>::new(alloc, run, bounds, below)?;
         tables.facts();
         Ok(Cursor {
             held: Held::Shared(tables),
         })
     }
 
+    fn is_over(&self) -> bool {
+        self.peek(End::Front).is_none()
+    }
+}
+
+impl Cursor {
     /// What every cursor meets: its keys rise.
     pub(crate) fn facts(&self)
         ensures { Rises by_key self.now.left }

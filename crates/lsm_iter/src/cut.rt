@@ -6,11 +6,14 @@ ghost use Rattle.lsm_below.specs.Sorted.{Rises};
 ghost use Rattle.lsm_iter.specs.Reads.{at};
 ghost use Rattle.lsm_iter.specs.Shown.{by_key};
 ghost use Rattle.lsm_iter.specs.Left.{end_item, copied, Takes};
+ghost use Rattle.lsm_iter.specs.declared.tree_iter.End.TheVariants.{Front};
 
 use crate::End;
-use crate::trim::{hidden_len, left_len, outermost, past_back, past_front};
+use crate::parts::{OfTable, Part, Parts};
+use crate::trim::{outermost, past_back, past_front, places_left};
 use lsm_below::{InternalValue, SeqNo, UserKey};
 use lsm_tables::Table;
+use std::alloc::AllocError;
 use std::marker::Model;
 use std::ops::Bound;
 
@@ -48,12 +51,9 @@ impl<'a> Cut<'a> {
         ensures bytes { All HasBytes result }
     {
         table.facts();
-        let entries = table.entries();
-        let (start, end) = table.places(&bounds.0, &bounds.1);
-        let low = start + hidden_len(&entries[start..end], below);
-        let high = low + left_len(&entries[low..end], below);
+        let (low, high) = places_left(table, bounds, below);
         Cut {
-            rest: &entries[low..high],
+            rest: &table.entries()[low..high],
             below,
         }
     }
@@ -91,5 +91,50 @@ impl<'a> Cut<'a> {
                 self.rest = &self.rest[..len];
             }
         }
+    }
+}
+
+impl<'a> Part for Cut<'a> {
+    ghost left = { λ c. c };
+
+    #[inline(always)]
+    fn is_over(&self) -> bool {
+        self.peek(End::Front).is_none()
+    }
+
+    #[inline(always)]
+    fn skip_end(&mut self, end: End) {
+        self.skip(end);
+    }
+}
+
+impl<'a> OfTable<'a> for Cut<'a> {
+    fn of_table(
+        table: &'a Table,
+        bounds: &(Bound<UserKey>, Bound<UserKey>),
+        below: SeqNo,
+    ) -> Result<Cut<'a>, AllocError> {
+        Ok(Cut::new(table, bounds, below))
+    }
+}
+
+impl<'a> Parts<Cut<'a>> {
+    /// The entry at this end, if there is one.
+    #[inline(always)]
+    pub(crate) fn peek(&self, end: End) -> Option<&'a InternalValue>
+        ensures { option_copied result ≡ end_item end self.now }
+    {
+        self.outermost(end)?.peek(end)
+    }
+
+    /// The first entry, which is taken off.
+    #[inline(always)]
+    pub(crate) fn take_front(&mut self) -> Option<&'a InternalValue>
+        ensures is { option_copied result ≡ end_item Front self.old }
+        ensures takes { Takes Front self.old (end_item Front self.old) self.new }
+    {
+        let entry = self.peek(End::Front);
+        self.skip(End::Front);
+        entry
     }
 }

@@ -1,13 +1,10 @@
 // What an iterator reads.
-ghost use Rattle.std.specs.Prelude.{◌≡◌, [], IfOk};
+ghost use Rattle.std.specs.Prelude.{◌≡◌, [], cond, map, IfOk};
 ghost use Rattle.lsm_iter.specs.Reads.{parts_at, state_of};
 ghost use Rattle.lsm_iter.specs.Left.{copied_within};
 ghost use Rattle.lsm_iter.specs.Puts.{PutsCursors};
 
-use crate::cursor::Cursor;
-use crate::lender::Lender;
-use crate::making::{push_copies, push_index, push_version};
-use crate::sources::{lend_index, lend_memtables, lend_version};
+use crate::sources::{Reader, push_index, push_memtables, push_version};
 use crate::{Memtable, Version};
 use lsm_below::{SeqNo, UserKey};
 use std::alloc::{AllocError, Global};
@@ -54,38 +51,21 @@ impl<'a> IterState<'a> {
         }
     }
 
-    /// A cursor for each source, the newest source first. Refused only for want of memory.
-    pub(crate) fn cursors(
-        &self,
-        alloc: Global,
-        bounds: &(Bound<UserKey>, Bound<UserKey>),
-        snapshot: SeqNo,
-    ) -> Result<Vec<Cursor>, AllocError>
-        ensures { IfOk result
-            (λ cursors. PutsCursors bounds.now.0 bounds.now.1 (parts_at snapshot self.now) (copied_within bounds.now.0 bounds.now.1 snapshot self.now) [] cursors.items) }
-    {
-        let mut cursors = Vec::with_capacity(alloc, self.memtables.len().saturating_add(1))?;
-        push_index(alloc, &mut cursors, self.overlay, bounds)?;
-        push_copies(alloc, &mut cursors, &self.memtables, bounds, snapshot)?;
-        push_version(alloc, &mut cursors, self.version, bounds, snapshot)?;
-        Ok(cursors)
-    }
-
-    /// A lender for each source, the newest source first: the index, the memtables, and the tables. Refused only for want
+    /// A reader of each source, the newest source first: the index, the memtables, and the tables. Refused only for want
     /// of memory.
-    pub(crate) fn lenders(
+    pub(crate) fn readers<R: Reader<'a>>(
         &self,
         alloc: Global,
         bounds: &(Bound<UserKey>, Bound<UserKey>),
         snapshot: SeqNo,
-    ) -> Result<Vec<Lender<'a>>, AllocError>
+    ) -> Result<Vec<R>, AllocError>
         ensures { IfOk result
-            (λ lenders. PutsCursors bounds.now.0 bounds.now.1 (parts_at snapshot self.now) 0 [] lenders.items) }
+            (λ readers. PutsCursors bounds.now.0 bounds.now.1 (parts_at snapshot self.now) (cond R.copies (copied_within bounds.now.0 bounds.now.1 snapshot self.now) 0) [] (map R.seen readers.items)) }
     {
-        let mut lenders = Vec::with_capacity(alloc, self.memtables.len().saturating_add(1))?;
-        lend_index(&mut lenders, self.overlay, bounds)?;
-        lend_memtables(&mut lenders, &self.memtables, bounds, snapshot)?;
-        lend_version(alloc, &mut lenders, self.version, bounds, snapshot)?;
-        Ok(lenders)
+        let mut readers = Vec::with_capacity(alloc, self.memtables.len().saturating_add(1))?;
+        push_index(alloc, &mut readers, self.overlay, bounds)?;
+        push_memtables(alloc, &mut readers, &self.memtables, bounds, snapshot)?;
+        push_version(alloc, &mut readers, self.version, bounds, snapshot)?;
+        Ok(readers)
     }
 }

@@ -11,7 +11,9 @@ ghost use Rattle.lsm_iter.specs.Shared.{IsSound};
 ghost use Rattle.lsm_iter.specs.declared.tree_iter.End.TheVariants.{Front};
 
 use crate::End;
-use crate::flat::Flat;
+use crate::cut::Cut;
+use crate::parts::Parts;
+use crate::sources::Reader;
 use crate::walk::Walk;
 use lsm_below::{InternalValue, Run, SeqNo, UserKey};
 use lsm_memtable::Span;
@@ -24,7 +26,7 @@ use std::ops::Bound;
 #[derive(Drop)]
 pub(crate) enum Source<'a> {
     Memtable(Walk<'a>),
-    Tables(Flat<'a>),
+    Tables(Parts<Cut<'a>>),
 }
 
 /// What is left of a source: of each key the newest entry that counts, by rising key, from both ends. It owns none.
@@ -93,40 +95,42 @@ fn value_of(entry: Option<&InternalValue>) -> Option<&InternalValue>
     }
 }
 
-impl<'a> Lender<'a> {
-    /// What is left of a part of a memtable.
-    pub(crate) fn memtable(span: &Span<'a>, below: SeqNo) -> Lender<'a>
-        ensures is { result ≡ record { left = tops (at below span.now); held = 0 } }
-        ensures bytes { All HasBytes result.left }
-    {
+impl<'a> Reader<'a> for Lender<'a> {
+    ghost use Rattle.std.specs.Prelude.{false};
+
+    ghost seen = { λ l. l };
+
+    ghost copies = { false };
+
+    fn of_span(_alloc: Global, span: &Span<'a>, below: SeqNo) -> Result<Lender<'a>, AllocError> {
         span.facts();
         span.keys_hold_bytes();
         let entries = Walk::new(span.iter(), below);
         entries.facts();
-        Lender {
+        Ok(Lender {
             source: Source::Memtable(entries),
-        }
+        })
     }
 
-    /// What lies of a run's tables within bounds. Refused only for want of memory.
-    pub(crate) fn tables(
+    fn of_run(
         alloc: Global,
         run: &'a Run<Table>,
         bounds: &(Bound<UserKey>, Bound<UserKey>),
         below: SeqNo,
-    ) -> Result<Lender<'a>, AllocError>
-        requires { All IsSound run.now }
-        ensures left { IfOk result (λ l. l.left ≡ flat_map (λ t. copied bounds.now.0 bounds.now.1 (at below t.entries)) run.now) }
-        ensures held { IfOk result (λ l. l.held ≡ 0) }
-        ensures bytes { IfOk result (λ l. All HasBytes l.left) }
-    {
-        let tables = Flat::new(alloc, run, bounds, below)?;
+    ) -> Result<Lender<'a>, AllocError> {
+        let tables = Parts::<Cut<'a>>::new(alloc, run, bounds, below)?;
         tables.facts();
         Ok(Lender {
             source: Source::Tables(tables),
         })
     }
 
+    fn is_over(&self) -> bool {
+        self.peek(End::Front).is_none()
+    }
+}
+
+impl<'a> Lender<'a> {
     /// The entry at this end.
     #[inline(always)]
     pub(crate) fn peek(&self, end: End) -> Option<&'a InternalValue>

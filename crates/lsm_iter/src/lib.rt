@@ -4,10 +4,11 @@
 //! |-|-|
 //! | `prefix` | the bounds of the keys that begin alike |
 //! | `iter_state` | what an iterator reads |
-//! | `making`, `cursor`, `copies`, `trim`, `shared` | what an iterator keeps of its sources, from both ends: copies of a memtable's entries, and shares of the tables of a run |
+//! | `sources`, `parts` | what reads a source, and what is left of the tables of a run, whether they are shared or lent |
+//! | `cursor`, `copies`, `trim` | what an iterator keeps of its sources, from both ends: copies of a memtable's entries, and shares of tables |
 //! | `outermost` | the first key that cursors have, seen from an end |
 //! | `tree_iter` | an iterator over what a snapshot shows, from both ends |
-//! | `sources`, `lender`, `walk`, `cut`, `flat` | the same of sources that are lent: of a memtable, of a table in bounds, of a run of tables |
+//! | `lender`, `walk`, `cut` | the same of sources that are lent: of a memtable, of a table in bounds |
 //! | `lending` | the first key that lenders have, seen from an end |
 //! | `pairs` | what a snapshot shows, lent by the tree |
 //! | `shown_ends` | the entry at an end of what a snapshot shows, and how many there are |
@@ -18,17 +19,15 @@
 mod copies;
 mod cursor;
 mod cut;
-mod flat;
 mod guard;
 mod iter_state;
 mod laws;
 mod lender;
 mod lending;
-mod making;
 mod outermost;
 mod pairs;
+mod parts;
 mod prefix;
-mod shared;
 mod shown_ends;
 mod sources;
 mod tree_iter;

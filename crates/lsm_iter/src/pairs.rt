@@ -78,7 +78,7 @@ impl<'a> Pairs<'a> {
         merges_by_key();
         maps_are_read();
         Ok(Pairs {
-            lenders: state.lenders(alloc, bounds, snapshot)?,
+            lenders: state.readers(alloc, bounds, snapshot)?,
         })
     }
 

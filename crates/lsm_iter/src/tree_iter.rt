@@ -77,7 +77,7 @@ impl TreeIter {
         merges_by_key();
         maps_are_read();
         Ok(TreeIter {
-            cursors: state.cursors(alloc, bounds, snapshot)?,
+            cursors: state.readers(alloc, bounds, snapshot)?,
         })
     }
 

@@ -1,5 +1,5 @@
 // The entries of a table between two places, at both of which one stands that counts.
-ghost use Rattle.std.specs.Prelude.{◌≡◌, ◌-◌, ◌+◌, ◌<◌, ◌≤◌, true, ◌&&◌, length, take, drop, ◌∷◌, List, filter, slice_index_or, option_copied, IfOk};
+ghost use Rattle.std.specs.Prelude.{◌≡◌, ◌-◌, ◌+◌, ◌<◌, ◌≤◌, true, ◌&&◌, length, take, drop, ◌∷◌, List, filter, slice_index_or, slice_range, option_copied, IfOk};
 ghost use Rattle.std.specs.List.{All};
 ghost use Rattle.lsm_below.specs.Entries.{Entry, entry_cmp, HasBytes};
 ghost use Rattle.lsm_below.specs.Runs.{IsCut};
@@ -12,6 +12,7 @@ ghost use Rattle.lsm_iter.specs.Trims.{IsTrimmed, Trims, counts};
 ghost use Rattle.lsm_iter.specs.declared.tree_iter.End.TheVariants.{Front, Back};
 
 use crate::End;
+use crate::parts::{OfTable, Part, Parts};
 use lsm_below::{InternalValue, SeqNo, UserKey, entries_are_ordered, has_same_key};
 use lsm_tables::Table;
 use std::alloc::AllocError;
@@ -57,7 +58,7 @@ fn group_len(entries: &[InternalValue]) -> usize
 
 /// How many entries come before the first one that counts.
 #[inline(always)]
-pub(crate) fn hidden_len(entries: &[InternalValue], below: SeqNo) -> usize
+fn hidden_len(entries: &[InternalValue], below: SeqNo) -> usize
     ensures inside { result ≤ length entries.now }
     ensures trims { Trims Front below entries.now (drop result entries.now) }
 {
@@ -125,7 +126,7 @@ fn newest_place(entries: &[InternalValue], below: SeqNo) -> usize
 }
 
 /// How many entries there are up to the newest one, that counts, of the last key.
-pub(crate) fn left_len(entries: &[InternalValue], below: SeqNo) -> usize
+fn left_len(entries: &[InternalValue], below: SeqNo) -> usize
     requires { Rises entry_cmp entries.now }
     ensures inside { result ≤ length entries.now }
     ensures trims { Trims Back below entries.now (take result entries.now) }
@@ -161,6 +162,27 @@ pub(crate) fn past_back(entries: &[InternalValue], below: SeqNo) -> usize
     ensures trimmed { IsTrimmed below (take result entries.now) }
 {
     left_len(&entries[..entries.len() - 1], below)
+}
+
+/// The places between which a table's entries are left: of those in bounds, from the first that counts to the newest
+/// one, that counts, of the last key.
+pub(crate) fn places_left(
+    table: &Table,
+    bounds: &(Bound<UserKey>, Bound<UserKey>),
+    below: SeqNo,
+) -> (usize, usize)
+    ensures in_order { result.0 ≤ result.1 }
+    ensures inside { result.1 ≤ length table.now.entries }
+    ensures trimmed { IsTrimmed below (slice_range table.now.entries result.0 result.1) }
+    ensures is { tops (at below (slice_range table.now.entries result.0 result.1)) ≡ copied bounds.now.0 bounds.now.1 (at below table.now.entries) }
+    ensures bytes { All HasBytes (copied bounds.now.0 bounds.now.1 (at below table.now.entries)) }
+{
+    table.facts();
+    let entries = table.entries();
+    let (start, end) = table.places(&bounds.0, &bounds.1);
+    let low = start + hidden_len(&entries[start..end], below);
+    let high = low + left_len(&entries[low..end], below);
+    (low, high)
 }
 
 /// The entries of a table between two places, of which the newest of each key that counts are left. At both
@@ -214,11 +236,7 @@ impl Trim {
         ensures is { IfOk result (λ t. t ≡ copied bounds.now.0 bounds.now.1 (at below table.now.entries)) }
         ensures bytes { IfOk result (All HasBytes) }
     {
-        table.facts();
-        let entries = table.entries();
-        let (start, end) = table.places(&bounds.0, &bounds.1);
-        let low = start + hidden_len(&entries[start..end], below);
-        let high = low + left_len(&entries[low..end], below);
+        let (low, high) = places_left(table, bounds, below);
         let table = table.copy()?;
         Ok(Trim {
             table,
@@ -255,5 +273,36 @@ impl Trim {
             End::Front => self.low += past_front(part, self.below),
             End::Back => self.high = self.low + past_back(part, self.below),
         }
+    }
+}
+
+impl Part for Trim {
+    ghost left = { λ t. t };
+
+    fn is_over(&self) -> bool {
+        self.peek(End::Front).is_none()
+    }
+
+    fn skip_end(&mut self, end: End) {
+        self.skip(end);
+    }
+}
+
+impl<'a> OfTable<'a> for Trim {
+    fn of_table(
+        table: &'a Table,
+        bounds: &(Bound<UserKey>, Bound<UserKey>),
+        below: SeqNo,
+    ) -> Result<Trim, AllocError> {
+        Trim::new(table, bounds, below)
+    }
+}
+
+impl Parts<Trim> {
+    /// The entry at this end, if there is one.
+    pub(crate) fn peek(&self, end: End) -> Option<&InternalValue>
+        ensures { option_copied result ≡ end_item end self.now }
+    {
+        self.outermost(end)?.peek(end)
     }
 }

@@ -22,6 +22,7 @@ pub mod Refusals
 pub mod Standing
 pub mod StandingImages
 pub mod Those
+pub mod Readings
 pub mod WholeFlushes
 pub mod Replacing
 pub mod CompactionDeeds

@@ -107,6 +107,8 @@ pub record SealsActive (r : Result (Option ℕ) Error) (old new : Core) : Type 0
   pub empty : first_entries old.memtables ≡ [] → r ≡ Ok None
   pub err : OnErr r (new ≡ old)
   pub out_of_numbers : IsErrOf r OutOfNumbers → LIMIT ≤ old.next_memtable
+  -- where no id is left, it is answered only where there is nothing to seal
+  pub told : LIMIT ≤ old.next_memtable → IfOk r (λ _. first_entries old.memtables ≡ [])
   pub only : IfErr r (λ e. (e ≡ OutOfNumbers) ⊎ (e ≡ OutOfMemory))
 
 -- ---- numbers

@@ -3,12 +3,11 @@ ghost use Rattle.std.specs.Prelude.{◌≡◌, ℕ, List, [], ◌∷◌, ◌++�
 ghost use Rattle.std.specs.declared.ops.Bound.TheVariants.{Unbounded};
 ghost use Rattle.lsm_iter.specs.declared.tree_iter.End.TheVariants.{Front, Back};
 ghost use Rattle.lsm_below.specs.Entries.{Entry};
-ghost use Rattle.lsm_state.specs.Copies.{AreThose, HoldsPrefix, copies_at};
+ghost use Rattle.lsm_state.specs.Calls.{RefusesRead};
+ghost use Rattle.lsm_state.specs.Copies.{AreThose, IsReading};
 ghost use Rattle.lsm_state.specs.Core.{shown_as};
-ghost use Rattle.lsm_state.specs.Ranges.{counting, Numbers, PairAt, TellsEmpty, EndOf};
+ghost use Rattle.lsm_state.specs.Ranges.{AtVersion, Numbers, PairAt, TellsEmpty, EndOf};
 ghost use Rattle.lsm_state.specs.Reading.{Reads, ReadsRange, ReadsPrefix, LendsRange, LendsPrefix};
-ghost use Rattle.lsm_iter.specs.Shown.{Shows, ShowsPrefix};
-ghost use Rattle.lsm_iter.specs.Ends.{EndShown, NumberShown};
 
 use crate::{TreeState, lists_are_steps};
 use lsm_below::{InternalValue, MemtableId, SeqNo, UserKey};
@@ -66,109 +65,6 @@ fn memtables_of<'a>(
     Ok(list)
 }
 
-/// What is shown within bounds by a super version, under an index.
-fn range_of(
-    alloc: Global,
-    memtables: &Memtables,
-    version: &SuperVersion,
-    bounds: &(Bound<UserKey>, Bound<UserKey>),
-    snapshot: SeqNo,
-    index: Option<(&Memtable, SeqNo)>,
-) -> Result<TreeIter, Error>
-    ensures shows { IfOk result (λ iter. Shows bounds.now.0 bounds.now.1 (counting memtables.now index.entry snapshot (shown_as version.now)) iter.left) }
-    ensures held { IfOk result (λ iter. iter.held ≡ length (copies_at memtables.now index.entry bounds.now.0 bounds.now.1 snapshot (shown_as version.now))) }
-    ensures memory { IfErr result (λ e. e ≡ Error.OutOfMemory) }
-{
-    let list = memtables_of(alloc, memtables, version)?;
-    let state = IterState::new(&version.version, list, index);
-    TreeIter::create_range(alloc, &state, bounds, snapshot)
-}
-
-/// What is shown within bounds by a super version, under an index, lent.
-fn pairs_of<'a>(
-    alloc: Global,
-    memtables: &'a Memtables,
-    version: &'a SuperVersion,
-    bounds: &(Bound<UserKey>, Bound<UserKey>),
-    snapshot: SeqNo,
-    index: Option<(&'a Memtable, SeqNo)>,
-) -> Result<Pairs<'a>, Error>
-    ensures shows { IfOk result (λ pairs. Shows bounds.now.0 bounds.now.1 (counting memtables.now index.entry snapshot (shown_as version.now)) pairs) }
-    ensures memory { IfErr result (λ e. e ≡ Error.OutOfMemory) }
-{
-    let list = memtables_of(alloc, memtables, version)?;
-    let state = IterState::new(&version.version, list, index);
-    Pairs::create_range(alloc, &state, bounds, snapshot)
-}
-
-/// What is shown of the keys that begin so by a super version, under an index.
-fn prefix_of(
-    alloc: Global,
-    memtables: &Memtables,
-    version: &SuperVersion,
-    prefix: &[u8],
-    snapshot: SeqNo,
-    index: Option<(&Memtable, SeqNo)>,
-) -> Result<TreeIter, Error>
-    ensures shows { IfOk result (λ iter. ShowsPrefix prefix.now (counting memtables.now index.entry snapshot (shown_as version.now)) iter.left) }
-    ensures held { IfOk result (λ iter. HoldsPrefix memtables.now index.entry prefix.now snapshot (shown_as version.now) iter.held) }
-    ensures memory { IfErr result (λ e. e ≡ Error.OutOfMemory) }
-{
-    let list = memtables_of(alloc, memtables, version)?;
-    let state = IterState::new(&version.version, list, index);
-    TreeIter::create_prefix(alloc, &state, prefix, snapshot)
-}
-
-/// What is shown of the keys that begin so by a super version, under an index, lent.
-fn prefix_pairs_of<'a>(
-    alloc: Global,
-    memtables: &'a Memtables,
-    version: &'a SuperVersion,
-    prefix: &[u8],
-    snapshot: SeqNo,
-    index: Option<(&'a Memtable, SeqNo)>,
-) -> Result<Pairs<'a>, Error>
-    ensures shows { IfOk result (λ pairs. ShowsPrefix prefix.now (counting memtables.now index.entry snapshot (shown_as version.now)) pairs) }
-    ensures memory { IfErr result (λ e. e ≡ Error.OutOfMemory) }
-{
-    let list = memtables_of(alloc, memtables, version)?;
-    let state = IterState::new(&version.version, list, index);
-    Pairs::create_prefix(alloc, &state, prefix, snapshot)
-}
-
-/// How many keys are shown by a super version, under an index.
-fn count_of(
-    alloc: Global,
-    memtables: &Memtables,
-    version: &SuperVersion,
-    snapshot: SeqNo,
-    index: Option<(&Memtable, SeqNo)>,
-) -> Result<usize, Error>
-    ensures number { IfOk result (NumberShown Unbounded Unbounded (counting memtables.now index.entry snapshot (shown_as version.now))) }
-    ensures memory { IfErr result (λ e. e ≡ Error.OutOfMemory) }
-{
-    let list = memtables_of(alloc, memtables, version)?;
-    let state = IterState::new(&version.version, list, index);
-    count_shown(alloc, &state, &ALL, snapshot)
-}
-
-/// The entry at an end of all that is shown by a super version, under an index.
-fn end_of(
-    alloc: Global,
-    memtables: &Memtables,
-    version: &SuperVersion,
-    end: End,
-    snapshot: SeqNo,
-    index: Option<(&Memtable, SeqNo)>,
-) -> Result<Option<InternalValue>, Error>
-    ensures shown { IfOk result (EndShown end Unbounded Unbounded (counting memtables.now index.entry snapshot (shown_as version.now))) }
-    ensures memory { IfErr result (λ e. e ≡ Error.OutOfMemory) }
-{
-    let list = memtables_of(alloc, memtables, version)?;
-    let state = IterState::new(&version.version, list, index);
-    end_shown(alloc, &state, end, &ALL, snapshot)
-}
-
 /// Whether no pair is left.
 fn is_over(pairs: Pairs<'_>) -> bool
     ensures { (e : Option Entry) × (result ≡ is_none e) × MatchOption e (pairs.entry ≡ []) (λ e. (rest : List Entry) × (pairs.entry ≡ e ∷ rest)) }
@@ -178,6 +74,20 @@ fn is_over(pairs: Pairs<'_>) -> bool
 }
 
 impl<S: Store> TreeState<S> {
+    /// What an iterator reads at a snapshot, under an index: the memtables and tables of the snapshot's super version.
+    fn state_at<'a>(
+        &'a self,
+        snapshot: SeqNo,
+        index: Option<(&'a Memtable, SeqNo)>,
+    ) -> Result<IterState<'a>, Error>
+        ensures ok { IfOk result (λ state. AtVersion self.now.core snapshot (λ sv. IsReading self.now.core.memtables index.entry sv state)) }
+        ensures refuses { RefusesRead self.now.core snapshot result }
+    {
+        let version = self.version_at(snapshot)?;
+        let list = memtables_of(self.alloc, &self.memtables, version)?;
+        Ok(IterState::new(&version.version, list, index))
+    }
+
     /// What a snapshot shows within bounds, under an index, from both ends: of each key the entry with the
     /// greatest sequence number that counts, unless that is a tombstone. The index's entries count below its own sequence number,
     /// those of the tree below the snapshot. It stands as of its making. Bounds in the wrong order show nothing.
@@ -192,17 +102,8 @@ impl<S: Store> TreeState<S> {
         ensures { ReadsRange self.now.core index.entry bounds.now.0 bounds.now.1 snapshot result }
     {
         lists_are_steps();
-        match self.version_at(snapshot) {
-            Ok(version) => range_of(
-                self.alloc,
-                &self.memtables,
-                version,
-                bounds,
-                snapshot,
-                index,
-            ),
-            Err(error) => Err(error),
-        }
+        let state = self.state_at(snapshot, index)?;
+        TreeIter::create_range(self.alloc, &state, bounds, snapshot)
     }
 
     /// What a snapshot shows within bounds, as `range`, lent by the tree: no entry is copied and no owner counted, at the
@@ -229,17 +130,8 @@ impl<S: Store> TreeState<S> {
         ensures { LendsRange self.now.core index.entry bounds.now.0 bounds.now.1 snapshot result }
     {
         lists_are_steps();
-        match self.version_at(snapshot) {
-            Ok(version) => pairs_of(
-                self.alloc,
-                &self.memtables,
-                version,
-                bounds,
-                snapshot,
-                index,
-            ),
-            Err(error) => Err(error),
-        }
+        let state = self.state_at(snapshot, index)?;
+        Pairs::create_range(self.alloc, &state, bounds, snapshot)
     }
 
     /// What a snapshot shows of the keys that begin so, as `prefix`, lent by the tree as `pairs` are.
@@ -254,17 +146,8 @@ impl<S: Store> TreeState<S> {
         ensures { LendsPrefix self.now.core index.entry prefix.now snapshot result }
     {
         lists_are_steps();
-        match self.version_at(snapshot) {
-            Ok(version) => prefix_pairs_of(
-                self.alloc,
-                &self.memtables,
-                version,
-                prefix,
-                snapshot,
-                index,
-            ),
-            Err(error) => Err(error),
-        }
+        let state = self.state_at(snapshot, index)?;
+        Pairs::create_prefix(self.alloc, &state, prefix, snapshot)
     }
 
     /// What a snapshot shows within bounds, as `create_internal_range`: an iterator from both ends that owns its pairs. To
@@ -333,17 +216,8 @@ impl<S: Store> TreeState<S> {
         ensures { ReadsPrefix self.now.core index.entry prefix.now snapshot result }
     {
         lists_are_steps();
-        match self.version_at(snapshot) {
-            Ok(version) => prefix_of(
-                self.alloc,
-                &self.memtables,
-                version,
-                prefix,
-                snapshot,
-                index,
-            ),
-            Err(error) => Err(error),
-        }
+        let state = self.state_at(snapshot, index)?;
+        TreeIter::create_prefix(self.alloc, &state, prefix, snapshot)
     }
 
     /// What a snapshot shows of the keys that begin so, as `create_prefix`.
@@ -362,10 +236,8 @@ impl<S: Store> TreeState<S> {
     pub fn len(&self, snapshot: SeqNo, index: Option<(&Memtable, SeqNo)>) -> Result<usize, Error>
         ensures { Reads (Numbers self.now.core index.entry snapshot) self.now.core snapshot result }
     {
-        match self.version_at(snapshot) {
-            Ok(version) => count_of(self.alloc, &self.memtables, version, snapshot, index),
-            Err(error) => Err(error),
-        }
+        let state = self.state_at(snapshot, index)?;
+        count_shown(self.alloc, &state, &ALL, snapshot)
     }
 
     /// Whether a snapshot shows nothing. It stops at the first pair that it finds, which isn't copied.
@@ -430,9 +302,7 @@ impl<S: Store> TreeState<S> {
     ) -> Result<Option<InternalValue>, Error>
         ensures { Reads (EndOf end self.now.core index.entry snapshot) self.now.core snapshot result }
     {
-        match self.version_at(snapshot) {
-            Ok(version) => end_of(self.alloc, &self.memtables, version, end, snapshot, index),
-            Err(error) => Err(error),
-        }
+        let state = self.state_at(snapshot, index)?;
+        end_shown(self.alloc, &state, end, &ALL, snapshot)
     }
 }

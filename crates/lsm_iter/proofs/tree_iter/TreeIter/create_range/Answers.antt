@@ -1,20 +1,18 @@
-use Rattle.std.proofs.Common.{sym, subst}
-use Rattle.std.proofs.lemmas.List.Elements.{All-nil}
-use Rattle.lsm_below.specs.Entries.{HasBytes}
-use Rattle.lsm_iter.specs.Shown.{Shows}
-use Rattle.lsm_iter.specs.Reads.{parts_at, counted_at}
-use Rattle.lsm_iter.specs.Left.{left_of, shown_list}
-use Rattle.lsm_iter.proofs.Newest.{shown_all}
-use Rattle.lsm_iter.proofs.Puts.{copies_show}
+use Rattle.std.proofs.Common.{[], map, subst}
+use Rattle.std.proofs.lemmas.List.{map-id}
+use Rattle.lsm_iter.specs.Reads.{parts_at}
+use Rattle.lsm_iter.specs.Left.{copied_within}
+use Rattle.lsm_iter.specs.Puts.{PutsCursors}
+use Rattle.lsm_iter.proofs.Puts.{readers_show}
 use Rattle.lsm_iter.proofs.tree_iter.TreeIter.create_range.Goals as goal
 
-pub returns-clause-shows : goal.returns-clause-shows
-returns-clause-shows c =
+pub returns : goal.returns
+returns c =
     let low = c.args.bounds.now.0 in
     let high = c.args.bounds.now.1 in
-    let puts = c.in_ok-cursors.ensures in
-    subst (λ l. Shows low high (counted_at c.args.snapshot c.args.state.now) (shown_list l)) (sym puts.adds.left)
-    (copies_show low high c.entries_are_ordered.ensures c.merges_by_key.ensures c.maps_are_read.ensures (parts_at c.args.snapshot c.args.state.now) puts.adds.rise)
-
-pub returns-clause-bytes : goal.returns-clause-bytes
-returns-clause-bytes c = shown_all HasBytes (left_of c.in_ok-cursors.field-0.items) (c.in_ok-cursors.ensures.bytes (All-nil HasBytes))
+    let parts = parts_at c.args.snapshot c.args.state.now in
+    let owned = copied_within low high c.args.snapshot c.args.state.now in
+    let cursors = c.in_ok-readers.field-0.items in
+    let puts : PutsCursors low high parts owned [] cursors = subst (PutsCursors low high parts owned []) (map-id cursors) c.in_ok-readers.ensures in
+    let shows = readers_show c.entries_are_ordered.ensures c.merges_by_key.ensures c.maps_are_read.ensures low high parts owned cursors puts in
+    record { shows = shows.0; bytes = shows.1; held = shows.2; memory = tt }

@@ -2,7 +2,7 @@
 use Rattle.std.proofs.Common.{◌+◌, ap}
 use Rattle.lsm_state.specs.Calls.{Draws}
 use Rattle.lsm_state.specs.Flushes.{with_next_table}
-use Rattle.lsm_tree.proofs.Closing.{refused_more}
+use Rattle.lsm_tree.proofs.Answered.{refused_more}
 use Rattle.lsm_tree.proofs.logged.Handle+Logged+S.get_next_table_id.Goals as goal
 
 pub returns : goal.returns

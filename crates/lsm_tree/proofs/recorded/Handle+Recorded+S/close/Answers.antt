@@ -1,7 +1,7 @@
 -- What is given out is of the tree that the lock guards.
 use Rattle.std.proofs.Common.{◌≡◌, sym}
 use Rattle.lsm_versions.specs.Levels.{placed_of}
-use Rattle.lsm_tree.proofs.Closing.{if_both}
+use Rattle.lsm_tree.proofs.Answered.{if_both}
 use Rattle.lsm_tree.proofs.recorded.Handle+Recorded+S.close.Goals as goal
 
 pub returns-clause-tree : goal.returns-clause-tree

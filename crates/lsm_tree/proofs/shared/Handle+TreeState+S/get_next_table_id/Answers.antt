@@ -1,6 +1,6 @@
 -- The tree that gives the id is the one that the lock guards.
 use Rattle.std.proofs.Common.{ap}
-use Rattle.lsm_tree.proofs.Closing.{refused_more}
+use Rattle.lsm_tree.proofs.Answered.{refused_more}
 use Rattle.lsm_tree.proofs.shared.Handle+TreeState+S.get_next_table_id.Goals as goal
 
 pub returns : goal.returns

@@ -1,6 +1,0 @@
-use Rattle.lsm_iter.proofs.Alone.{rises_on}
-use Rattle.lsm_iter.specs.declared.tree_iter.End.TheVariants.{Back}
-use Rattle.lsm_iter.proofs.flat.Flat.skip.Goals as goal
-
-pub invariant_of-self-in-Back : goal.invariant_of-self-in-Back
-invariant_of-self-in-Back c = (rises_on Back _ _ _ c.self.invariant.0 c.skip_back.ensures.takes, c.skip_back.ensures.full)

@@ -1,8 +1,0 @@
-use Rattle.std.proofs.Common.{map, take}
-use Rattle.lsm_below.specs.Optimizes.{tables_of as all_tables}
-use Rattle.lsm_iter.specs.Reads.{at}
-use Rattle.lsm_iter.specs.Puts.{PutsCursors}
-use Rattle.lsm_iter.proofs.making.push_runs.Given as goal
-
-abbrev pub invariant-loop-run : goal.invariant-loop-run
-invariant-loop-run l = PutsCursors l.bounds.0 l.bounds.1 (map (λ t. at l.below t.entries) (all_tables (take l.run-index l.runs))) 0 l.fn.cursors.items l.cursors.items
