@@ -161,8 +161,12 @@ impl<'a> Reader<'a> for Cursor {
         })
     }
 
-    fn is_over(&self) -> bool {
-        self.peek(End::Front).is_none()
+    fn peek(&self, end: End) -> Option<&InternalValue> {
+        peek_in(end, &self.held)
+    }
+
+    fn skip(&mut self, end: End) {
+        skip_in(end, &mut self.held);
     }
 }
 
@@ -172,22 +176,6 @@ impl Cursor {
         ensures { Rises by_key self.now.left }
     {
         let _ = &self.held;
-    }
-
-    /// The entry at this end.
-    pub(crate) fn peek(&self, end: End) -> Option<&InternalValue>
-        ensures is { option_copied result ≡ end_item end self.now.left }
-        ensures rises { Rises by_key self.now.left }
-    {
-        peek_in(end, &self.held)
-    }
-
-    /// Leaves out the entry at this end.
-    pub(crate) fn skip(&mut self, end: End)
-        ensures takes { Takes end self.old.left (end_item end self.old.left) self.new.left }
-        ensures held { self.new.held ≤ self.old.held }
-    {
-        skip_in(end, &mut self.held);
     }
 
     /// Takes the entry at this end, if it is a value, and leaves it out if it isn't. Refused only for want of

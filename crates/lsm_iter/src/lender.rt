@@ -125,30 +125,18 @@ impl<'a> Reader<'a> for Lender<'a> {
         })
     }
 
-    fn is_over(&self) -> bool {
-        self.peek(End::Front).is_none()
+    #[inline(always)]
+    fn peek(&self, end: End) -> Option<&InternalValue> {
+        peek_in(end, &self.source)
+    }
+
+    #[inline(always)]
+    fn skip(&mut self, end: End) {
+        skip_in(end, &mut self.source);
     }
 }
 
 impl<'a> Lender<'a> {
-    /// The entry at this end.
-    #[inline(always)]
-    pub(crate) fn peek(&self, end: End) -> Option<&'a InternalValue>
-        ensures is { option_copied result ≡ end_item end self.now.left }
-        ensures rises { Rises by_key self.now.left }
-    {
-        peek_in(end, &self.source)
-    }
-
-    /// Leaves out the entry at this end.
-    #[inline(always)]
-    pub(crate) fn skip(&mut self, end: End)
-        ensures takes { Takes end self.old.left (end_item end self.old.left) self.new.left }
-        ensures held { self.new.held ≤ self.old.held }
-    {
-        skip_in(end, &mut self.source);
-    }
-
     /// Takes the entry at this end, if it is a value, and leaves it out if it isn't.
     #[inline(always)]
     pub(crate) fn take(&mut self, end: End) -> Option<&'a InternalValue>
@@ -156,8 +144,8 @@ impl<'a> Lender<'a> {
         ensures takes { TakesValue end self.old.left (option_copied result) self.new.left }
         ensures held { self.new.held ≤ self.old.held }
     {
-        let value = value_of(self.peek(end));
-        self.skip(end);
+        let value = value_of(peek_in(end, &self.source));
+        skip_in(end, &mut self.source);
         value
     }
 

@@ -1,5 +1,5 @@
-// The outermost key of cursors: the first one seen from an end.
-ghost use Rattle.std.specs.Prelude.{◌≡◌, ◌≢◌, ◌+◌, ◌<◌, ◌≤◌, [], length, MatchOption, IfOk, OnErr};
+// The outermost key of readers: the first one seen from an end.
+ghost use Rattle.std.specs.Prelude.{◌≡◌, ◌≢◌, ◌+◌, ◌<◌, ◌≤◌, [], length, map, MatchOption, IfOk, OnErr};
 ghost use Rattle.lsm_below.specs.Sorted.{Rises};
 ghost use Rattle.lsm_iter.specs.Shown.{by_key};
 ghost use Rattle.lsm_iter.specs.Left.{left_of, held_in, shown_list, end_item, Takes};
@@ -8,6 +8,7 @@ ghost use Rattle.lsm_iter.specs.declared.outermost.Standing.TheVariants.{Outside
 
 use crate::End;
 use crate::cursor::Cursor;
+use crate::sources::Reader;
 use lsm_below::InternalValue;
 use std::alloc::AllocError;
 use std::cmp::Ordering;
@@ -26,7 +27,7 @@ pub(crate) enum Standing {
 }
 
 /// How the second entry stands to the first one.
-pub(crate) fn stands_to(end: End, entry: &InternalValue, other: &InternalValue) -> Standing
+fn stands_to(end: End, entry: &InternalValue, other: &InternalValue) -> Standing
     ensures { result ≡ standing end entry.now other.now }
 {
     let order = match end {
@@ -46,55 +47,85 @@ pub(crate) fn stands_to(end: End, entry: &InternalValue, other: &InternalValue) 
     }
 }
 
-/// How an entry stands to the one at an end of a cursor: outside, where that has none.
-fn stands_at(end: End, cursor: &Cursor, other: &InternalValue) -> Standing
-    ensures rises { Rises by_key cursor.now.left }
-    ensures is { MatchOption (end_item end cursor.now.left) (result ≡ Outside) (λ e. result ≡ standing end e other.now) }
+/// How an entry stands to the one at an end of a reader: outside, where that has none.
+fn stands_at<'a, R: Reader<'a>>(end: End, reader: &R, other: &InternalValue) -> Standing
+    ensures rises { Rises by_key (R.seen reader.now).left }
+    ensures is { MatchOption (end_item end (R.seen reader.now).left) (result ≡ Outside) (λ e. result ≡ standing end e other.now) }
 {
-    match cursor.peek(end) {
+    match reader.peek(end) {
         Some(entry) => stands_to(end, entry, other),
         None => Standing::Outside,
     }
 }
 
-/// Of the cursors up to this one the place of the one with the outermost key, where that of those before it is
+/// Of the readers up to this one the place of the one with the outermost key, where that of those before it is
 /// known. Where two have one key, the older entry goes, which no step would show.
-fn outer_of(end: End, cursors: &mut [Cursor], outer: Option<usize>, at: usize) -> Option<usize>
-    requires at { at < length cursors.old }
-    requires outer { IsOutermost end cursors.old at outer }
-    ensures outer { IsOutermost end cursors.new (at + 1) result }
-    ensures same { ShowSame cursors.old cursors.new }
+fn outer_of<'a, R: Reader<'a>>(
+    end: End,
+    readers: &mut [R],
+    outer: Option<usize>,
+    at: usize,
+) -> Option<usize>
+    requires at { at < length readers.old }
+    requires outer { IsOutermost end (map R.seen readers.old) at outer }
+    ensures outer { IsOutermost end (map R.seen readers.new) (at + 1) result }
+    ensures same { ShowSame (map R.seen readers.old) (map R.seen readers.new) }
 {
-    let Some(entry) = cursors[at].peek(end) else {
+    let Some(entry) = readers[at].peek(end) else {
         return outer;
     };
     let Some(place) = outer else {
         return Some(at);
     };
-    match stands_at(end, &cursors[place], entry) {
+    match stands_at(end, &readers[place], entry) {
         Standing::Outside => Some(at),
         Standing::Inside => Some(place),
         Standing::Newer => {
-            cursors[place].skip(end);
+            readers[place].skip(end);
             Some(at)
         }
         Standing::Older => {
-            cursors[at].skip(end);
+            readers[at].skip(end);
             Some(place)
         }
     }
 }
 
-/// The place of the cursor with the outermost key, which no other one has. One comparison a cursor.
-fn outermost_at(end: End, cursors: &mut [Cursor]) -> Option<usize>
-    ensures outer { IsOutermost end cursors.new (length cursors.new) result }
-    ensures same { ShowSame cursors.old cursors.new }
+/// The place of the only reader, if it has an entry: nothing is compared.
+#[inline(always)]
+fn only_at<'a, R: Reader<'a>>(end: End, readers: &[R]) -> Option<usize>
+    requires { length readers.now ≡ 1 }
+    ensures { IsOutermost end (map R.seen readers.now) 1 result }
+{
+    match readers[0].peek(end) {
+        Some(_entry) => Some(0),
+        None => None,
+    }
+}
+
+/// The place of the reader with the outermost key, which no other one has. One comparison a reader.
+#[inline(never)]
+fn many_at<'a, R: Reader<'a>>(end: End, readers: &mut [R]) -> Option<usize>
+    ensures outer { IsOutermost end (map R.seen readers.new) (length readers.new) result }
+    ensures same { ShowSame (map R.seen readers.old) (map R.seen readers.new) }
 {
     let mut outer = None;
-    for at in 0..cursors.len() {
-        outer = outer_of(end, cursors, outer, at);
+    for at in 0..readers.len() {
+        outer = outer_of(end, readers, outer, at);
     }
     outer
+}
+
+/// The place of the reader with the outermost key, which no other one has: one alone isn't compared.
+#[inline(always)]
+pub(crate) fn outermost_at<'a, R: Reader<'a>>(end: End, readers: &mut [R]) -> Option<usize>
+    ensures outer { IsOutermost end (map R.seen readers.new) (length readers.new) result }
+    ensures same { ShowSame (map R.seen readers.old) (map R.seen readers.new) }
+{
+    if readers.len() == 1 {
+        return only_at(end, readers);
+    }
+    many_at(end, readers)
 }
 
 /// Takes the entry at this end of what cursors show. Refused only for want of memory, where something is left.

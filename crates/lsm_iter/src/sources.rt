@@ -8,8 +8,8 @@ ghost use Rattle.lsm_iter.specs.Left.{left_of, held_in};
 ghost use Rattle.lsm_iter.specs.Puts.{PutsCursors, owned_of};
 ghost use Rattle.lsm_iter.specs.Shared.{IsSound};
 
-use crate::{Memtable, Version};
-use lsm_below::{Run, SeqNo, UserKey};
+use crate::{End, Memtable, Version};
+use lsm_below::{InternalValue, Run, SeqNo, UserKey};
 use lsm_memtable::Span;
 use lsm_tables::Table;
 use lsm_versions::Level;
@@ -18,11 +18,13 @@ use std::ops::Bound;
 
 /// What reads a source: of each key the newest entry that counts, by rising key, from both ends.
 pub(crate) trait Reader<'a>: Drop {
-    ghost use Rattle.std.specs.Prelude.{◌≡◌, Bool, IsTrue, ◌↔◌, [], length, cond, flat_map, IfOk};
+    ghost use Rattle.std.specs.Prelude.{◌≡◌, ◌≤◌, Bool, length, cond, flat_map, option_copied, IfOk};
     ghost use Rattle.std.specs.List.{All};
     ghost use Rattle.lsm_below.specs.Entries.{HasBytes};
+    ghost use Rattle.lsm_below.specs.Sorted.{Rises};
     ghost use Rattle.lsm_iter.specs.Reads.{at};
-    ghost use Rattle.lsm_iter.specs.Left.{SeenCursor, tops, copied};
+    ghost use Rattle.lsm_iter.specs.Left.{SeenCursor, tops, copied, end_item, Takes};
+    ghost use Rattle.lsm_iter.specs.Shown.{by_key};
     ghost use Rattle.lsm_iter.specs.Shared.{IsSound};
 
     /// What is left, and how many entries it owns.
@@ -49,19 +51,26 @@ pub(crate) trait Reader<'a>: Drop {
         ensures held { IfOk result (λ r. (seen r).held ≡ 0) }
         ensures bytes { IfOk result (λ r. All HasBytes (seen r).left) };
 
-    /// Whether nothing is left.
-    fn is_over(&self) -> bool
-        ensures { IsTrue result ↔ ((seen self.now).left ≡ []) };
+    /// The entry at this end.
+    fn peek(&self, end: End) -> Option<&InternalValue>
+        ensures is { option_copied result ≡ end_item end (seen self.now).left }
+        ensures rises { Rises by_key (seen self.now).left };
+
+    /// Leaves out the entry at this end.
+    fn skip(&mut self, end: End)
+        ensures takes { Takes end (seen self.old).left (end_item end (seen self.old).left) (seen self.new).left }
+        ensures held { (seen self.new).held ≤ (seen self.old).held };
 }
 
 /// Appends a reader, unless nothing is left of it. Refused only for want of memory.
 fn push_reader<'a, R: Reader<'a>>(readers: &mut Vec<R>, reader: R) -> Result<(), AllocError>
-    requires { (R.seen reader).left ≡ [] → (R.seen reader).held ≡ 0 }
     ensures left { OnOk result (left_of (map R.seen readers.new.items) ≡ left_of (map R.seen readers.old.items) ++ (R.seen reader).left) }
-    ensures held { OnOk result (held_in (map R.seen readers.new.items) ≡ held_in (map R.seen readers.old.items) + (R.seen reader).held) }
+    // One of which nothing is left owns nothing.
+    ensures held { ((R.seen reader).left ≡ [] → (R.seen reader).held ≡ 0) → OnOk result (held_in (map R.seen readers.new.items) ≡ held_in (map R.seen readers.old.items) + (R.seen reader).held) }
 {
-    if !reader.is_over() {
-        readers.push(reader)?;
+    match reader.peek(End::Front) {
+        Some(_entry) => readers.push(reader)?,
+        None => {}
     }
     Ok(())
 }

@@ -5,8 +5,7 @@ use Rattle.std.specs.declared.ops.Bound.TheVariants.{Unbounded}
 use Rattle.lsm_below.specs.Keys.{Bytes}
 use Rattle.lsm_below.specs.Entries.{Entry}
 use Rattle.lsm_below.specs.declared.error.Error.{Error}
-use Rattle.lsm_below.specs.declared.error.Error.TheVariants.{OutOfMemory, SnapshotTooOld}
-use Rattle.lsm_model.specs.Views.{SuperVersion}
+use Rattle.lsm_below.specs.declared.error.Error.TheVariants.{OutOfMemory}
 use Rattle.lsm_iter.specs.Ends.{EndShown, NumberShown}
 use Rattle.lsm_iter.specs.Left.{SeenIter, copied_within}
 use Rattle.lsm_iter.specs.Prefixes.{LetsInJust}
@@ -23,8 +22,8 @@ use Rattle.lsm_state.specs.Reading.{Reads, ReadsRange, ReadsPrefix, LendsRange, 
 module _ (c : Core) (index : Index) (s : ℕ) (st : SeenState) (read : AtVersion c s (λ sv. IsReading c.memtables index sv st)) where
   -- a super version was found, so only memory may be missing
   refused : {A : Type 0} (r : Result A Error) → IfErr r (λ e. e ≡ OutOfMemory) → RefusesRead c s r
-  refused (Ok x) only = record { too_old = (λ h. absurd h, λ none. absurd (let bad : None ≡ Some read.0 = sym none ∙ read.1 in cc bad)); only = tt }
-  refused (Err e) only = record { too_old = (λ old. absurd (let bad : OutOfMemory ≡ SnapshotTooOld = sym only ∙ old in cc bad), λ none. absurd (let bad : None ≡ Some read.0 = sym none ∙ read.1 in cc bad)); only = inr only }
+  refused (Ok x) only = record { too_old = (λ h. absurd (cc h), λ none. absurd (let bad : None ≡ Some read.0 = sym none ∙ read.1 in cc bad)); only = tt }
+  refused (Err e) only = record { too_old = (λ old. absurd (cc (only, old)), λ none. absurd (let bad : None ≡ Some read.0 = sym none ∙ read.1 in cc bad)); only = inr only }
 
   in_range : (low high : Bound Bytes) (out : List Entry) → Shows low high (counted_at s st) out → Ranges c index low high s out
   in_range low high out shows = (read.0, read.1, subst (λ es. Shows low high es out) (read.2.counts s) shows)

@@ -1,4 +1,4 @@
-use Rattle.std.proofs.Common.{◌≡◌, ◌≢◌, ◌+◌, List, [], ◌-◌, length, take, set, ◌∙◌, sym, ap, rules}
+use Rattle.std.proofs.Common.{◌≢◌, [], ◌-◌, take, set, ◌∙◌, sym, ap, rules}
 use Rattle.lsm_iter.proofs.OfParts.{last_of, last_skipped, last_full, last_gone}
 use Rattle.lsm_iter.proofs.parts.skip_back.Goals as goal
 

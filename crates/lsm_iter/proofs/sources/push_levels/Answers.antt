@@ -1,4 +1,4 @@
-use Rattle.std.proofs.Common.{map, sym, subst, arith}
+use Rattle.std.proofs.Common.{refl, map, sym, subst, arith}
 use Rattle.std.specs.List.{All}
 use Rattle.std.proofs.lemmas.List.{take_all}
 use Rattle.lsm_below.specs.Optimizes.{tables_of}
@@ -10,7 +10,7 @@ use Rattle.lsm_iter.proofs.Puts.{level_put, level_sound}
 use Rattle.lsm_iter.proofs.sources.push_levels.Goals as goal
 
 pub push_runs-requires : goal.push_runs-requires
-push_runs-requires g c = λ _. subst (λ l. All IsSound (tables_of l)) (sym c.as_slice.ensures) (level_sound c.args.levels.now c.loop-level.level-index c.level-item.result c.loop-level-test.true c.level-item.is c.requires)
+push_runs-requires g c = λ _. ((refl, tt), subst (λ l. All IsSound (tables_of l)) (sym c.as_slice.ensures) (level_sound c.args.levels.now c.loop-level.level-index c.level-item.result c.loop-level-test.true c.level-item.is c.requires))
 
 pub loop-level-preserved : goal.loop-level-preserved
 loop-level-preserved g c =

@@ -1,4 +1,4 @@
-use Rattle.std.proofs.Common.{map, subst, arith}
+use Rattle.std.proofs.Common.{refl, map, subst, arith}
 use Rattle.std.proofs.lemmas.List.{take_all}
 use Rattle.lsm_below.specs.Optimizes.{tables_of}
 use Rattle.lsm_iter.specs.Reads.{at}
@@ -7,7 +7,7 @@ use Rattle.lsm_iter.proofs.Puts.{run_put, run_sound}
 use Rattle.lsm_iter.proofs.sources.push_runs.Goals as goal
 
 pub push_run-requires : goal.push_run-requires
-push_run-requires g c = λ _. run_sound c.args.runs.now c.loop-run.run-index c.run-item.result c.loop-run-test.true c.run-item.is c.requires
+push_run-requires g c = λ _. ((refl, tt), run_sound c.args.runs.now c.loop-run.run-index c.run-item.result c.loop-run-test.true c.run-item.is c.requires)
 
 pub loop-run-preserved : goal.loop-run-preserved
 loop-run-preserved g c =

@@ -1,4 +1,4 @@
-use Rattle.std.proofs.Common.{sym, subst, map}
+use Rattle.std.proofs.Common.{refl, sym, subst, map}
 use Rattle.std.specs.List.{All}
 use Rattle.lsm_versions.specs.Levels.{all_of}
 use Rattle.lsm_iter.specs.Reads.{at}
@@ -8,7 +8,7 @@ use Rattle.lsm_iter.proofs.Puts.{shown_parts, version_sound}
 use Rattle.lsm_iter.proofs.sources.push_version.Goals as goal
 
 pub push_levels-requires : goal.push_levels-requires
-push_levels-requires g c = λ _. subst (λ levels. All IsSound (all_of levels)) (sym c.levels.ensures) (version_sound c.args.version.now.levels c.facts.ensures.is)
+push_levels-requires g c = λ _. ((refl, tt), subst (λ levels. All IsSound (all_of levels)) (sym c.levels.ensures) (version_sound c.args.version.now.levels c.facts.ensures.is))
 
 pub returns : goal.returns
 returns g c =

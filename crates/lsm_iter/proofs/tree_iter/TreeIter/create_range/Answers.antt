@@ -1,4 +1,4 @@
-use Rattle.std.proofs.Common.{[], map, subst}
+use Rattle.std.proofs.Common.{[], subst}
 use Rattle.std.proofs.lemmas.List.{map-id}
 use Rattle.lsm_iter.specs.Reads.{parts_at}
 use Rattle.lsm_iter.specs.Left.{copied_within}
