@@ -1,5 +1,5 @@
 -- What each call keeps of a tree with its journal.
-use Rattle.std.proofs.Common.{cond, ◌≡◌, ℕ, ◌+◌, ◌<◌, ◌≤◌, Bool, true, false, List, [], ◌∷◌, ◌++◌, Option, Some, None, Result, Ok, Err, IfOk, OnOk, OnErr, IsErrOf, ◌↔◌, map, refl, sym, ap, ◌∙◌, subst, arith, ◌⊎◌, ⊎_elim, is_some, IfSome, append-nil, append_assoc}
+use Rattle.std.proofs.Common.{cond, ◌≡◌, ℕ, ◌+◌, ◌<◌, ◌≤◌, Bool, true, false, List, [], ◌∷◌, ◌++◌, Option, Some, None, Result, Ok, Err, IfOk, IfErr, inl, inr, OnOk, OnErr, IsErrOf, ◌↔◌, map, refl, sym, ap, ◌∙◌, subst, arith, ◌⊎◌, ⊎_elim, is_some, IfSome, append-nil, append_assoc}
 use Rattle.std.specs.BTreeMap.{BTreeMap}
 use Rattle.std.specs.FinMap.{get}
 use Rattle.std.specs.List.{list_any, list_all, AllByRecursion}
@@ -23,18 +23,33 @@ use Rattle.lsm_model.specs.declared.question.Answer.TheVariants.{Found, Pairs}
 use Rattle.lsm_below.specs.declared.error.Error.{Error}
 use Rattle.lsm_below.specs.declared.error.Error.TheVariants.{OutOfMemory, OutOfOrder, OutOfNumbers, KeyTooLong, ValueTooLong, DuplicateKey}
 use Rattle.lsm_state.specs.Core.{Core, Seen, state_of, latest_of, older_of, written_core}
-use Rattle.lsm_state.specs.Calls.{IsWriteStep, IsGetStep, Gives, Rotates, Appends, WritesBatch}
+use Rattle.lsm_state.specs.Calls.{IsWriteStep, IsGetStep, Gives, RefusesRead, Rotates, Appends, WritesBatch}
 use Rattle.lsm_state.specs.Ranges.{IsListStep}
-use Rattle.lsm_iter.specs.Guards.{Pair}
+use Rattle.lsm_iter.specs.Guards.{Pair, pair_of}
 use Rattle.lsm_state.specs.Refusals.{batch_refusal, is_great, is_long_key, is_long_value}
 use Rattle.lsm_recorded.specs.declared.marks.Mark.{Mark}
 use Rattle.lsm_recorded.specs.Marks.{mark_of, mark_in, marked_by, marked_all, entry_allowed, op_allowed}
 use Rattle.lsm_recorded.specs.Order.{keeps_order, batch_keeps_order}
+use Rattle.lsm_recorded.specs.Calls.{ReadsPairs}
 use Rattle.lsm_recorded.specs.Recorded.{AreMarked, IsRecorded, OwnOr, Stays, StaysTo}
 use Rattle.lsm_recorded.specs.Passes.{Notes}
 use Rattle.lsm_recorded.proofs.Watermarks.{same_marked, still_marked}
 use Rattle.lsm_recorded.proofs.BatchLemmas.{key_is, seqno_is, not_refused, allowed_order}
 use Rattle.lsm_recorded.proofs.MarksLemmas.{order_marked, in_order_push, mark_in-read, mark_in-write, mark_in-writes, marked_by_same, marked_all_same, IsCounted, write_counted, batch_counted, floor-write, floor-writes, entry_keys}
+
+-- ---- what a tree refuses of a read
+
+if_ok : {A P : Type 0} (r : Result A Error) → P → IfOk r (λ _. P)
+if_ok (Ok a) p = p
+if_ok (Err e) p = tt
+
+in_time : {A : Type 0} (c : Core) (s : ℕ) (r : Result A Error) → RefusesRead c s r → IsErrOf r OutOfOrder → ⊥
+in_time c s (Ok a) h late = absurd (cc late)
+in_time c s (Err e) h late = elim h.only [ inl old ↦ absurd (cc (old, late)) | inr memory ↦ absurd (cc (memory, late)) ]
+
+memory_alone : {A : Type 0} (c : Core) (s : ℕ) (r : Result A Error) → RefusesRead c s r → (found_at s (latest_of c) (older_of c) ≡ None → ⊥) → IfErr r (λ e. e ≡ OutOfMemory)
+memory_alone c s (Ok a) h found = tt
+memory_alone c s (Err e) h found = elim h.only [ inl old ↦ absurd (found (h.too_old.0 (ap Err old))) | inr memory ↦ memory ]
 
 -- marks by key
 abbrev pub Marks : Type 0
@@ -221,16 +236,30 @@ module _ (opened : List Placed) (least : ℕ) where
   lists_agree pairs theory marks low c journal question s (Ok a) r up step = listed_agrees theory marks low c journal question s (pairs a) r up step
   lists_agree pairs theory marks low c journal question s (Err x) r up step = tt
 
+  -- a kept snapshot finds a super version
+  pub kept_found : (marks : Marks) (low : ℕ) (s : ℕ) (journal : List Event) (c : Core) → IsRecorded opened least marks low c journal → IsKept s journal → found_at s (latest_of c) (older_of c) ≡ None → ⊥
+  kept_found marks low s journal c r kept none = not_none _ (r.reads.answered s kept) none
+
+  -- where the tree tells of a read, so does the tree with its journal
+  pub pairs_read : {S A : Type 0} (left : A → List Entry) (lists : Core → List Entry → Type 0) (theory : Soundness) (marks : Marks) (low : ℕ) (t : Seen S) (journal : List Event) (question : Question) (s : ℕ) (r : Result A Error) → IsRecorded opened least marks low t.core journal → least ≤ s
+      → IfOk r (λ a. lists t.core (left a)) → IfOk r (λ a. IsListStep t.core question s (map pair_of (left a))) → RefusesRead t.core s r → ReadsPairs question left lists s r (record { tree = t; journal = journal; opened = opened })
+  pairs_read left lists theory marks low t journal question s r rec from core step refuses =
+      let up : above (held opened) ≤ s = let is = rec.least_is in omega (arith, from) in
+      record {
+        core = core;
+        step = step;
+        replay = lists_agree (λ a. map pair_of (left a)) theory marks low t.core journal question s r rec up step;
+        not_below = if_ok r up;
+        refuses = record { out_of_order = (λ late. absurd (in_time t.core s r refuses late), λ below. absurd (omega (arith, below, up))); refuses = λ _. refuses };
+        kept = λ _ kept. memory_alone t.core s r refuses (kept_found marks low s journal t.core rec kept);
+      }
+
   -- a get answers the replay
   pub answers_replay : (theory : Soundness) (marks : Marks) (low : ℕ) (k : Bytes) (s : ℕ) (v : Option Bytes) (journal : List Event) (c : Core) → Gives c k s v → IsRecorded opened least marks low c journal → above (held opened) ≤ s → is_outside k s journal ≡ true → v ≡ get (replay (shown_by opened) journal s) k
   answers_replay theory marks low k s v journal c g r up out =
       g.2
       ∙ found_cut _ _ (theory.right.answers (held opened) (shown_by opened) (state_of journal c) r.holds s g.0 g.1 (Get k))
       ∙ theory.right.views (held opened) (shown_by opened) (state_of journal c) r.holds s g.0 up g.1 k out
-
-  -- a kept snapshot finds a super version
-  pub kept_found : (marks : Marks) (low : ℕ) (s : ℕ) (journal : List Event) (c : Core) → IsRecorded opened least marks low c journal → IsKept s journal → found_at s (latest_of c) (older_of c) ≡ None → ⊥
-  kept_found marks low s journal c r kept none = not_none _ (r.reads.answered s kept) none
 
   -- ---- rotation
 

@@ -16,7 +16,9 @@ use Rattle.lsm_model.specs.declared.question.Question.{Question}
 use Rattle.lsm_model.specs.declared.question.Question.TheVariants.{Get}
 use Rattle.lsm_model.specs.declared.question.Answer.TheVariants.{Found, Pairs}
 use Rattle.lsm_state.specs.Core.{Core}
+use Rattle.lsm_iter.specs.Guards.{pair_of}
 use Rattle.lsm_state.specs.Calls.{Appends, Gives, WritesBatch}
+use Rattle.lsm_state.specs.Ranges.{IsListStep}
 use Rattle.lsm_recorded.specs.Order.{keeps_order, batch_keeps_order}
 use Rattle.lsm_recorded.specs.Passes.{Notes}
 use Rattle.lsm_recorded.specs.Recorded.{SeenRecorded, OwnOr, StaysTo, RefusesRecorded}
@@ -72,3 +74,13 @@ pub record NotesPairs {S : Type 0} (question : Question) (answers : Core → Lis
   pub err : OnErr r ((new ≡ old) × (pass' ≡ pass))
   pub refuses : RefusesRecorded (above (held old.opened)) old.tree.core s r
   pub kept : above (held old.opened) ≤ s → IsKept s old.journal → IfErr r (λ e. e ≡ OutOfMemory)
+
+-- an iterator is made, or pairs are lent, of which these entries are left: as the tree lists them, which is what the replay of the
+-- journal has, outside dropped ranges; nothing is noted, and a kept snapshot fails only for memory
+pub record ReadsPairs {S A : Type 0} (question : Question) (left : A → List Entry) (lists : Core → List Entry → Type 0) (s : ℕ) (r : Result A Error) (t : SeenRecorded S) : Type 0 where
+  pub core : IfOk r (λ a. lists t.tree.core (left a))
+  pub step : IfOk r (λ a. IsListStep t.tree.core question s (map pair_of (left a)))
+  pub replay : IfOk r (λ a. ReadAgrees (shown_by t.opened) t.journal (Read s question (Pairs (map pair_of (left a)))))
+  pub not_below : IfOk r (λ _. above (held t.opened) ≤ s)
+  pub refuses : RefusesRecorded (above (held t.opened)) t.tree.core s r
+  pub kept : above (held t.opened) ≤ s → IsKept s t.journal → IfErr r (λ e. e ≡ OutOfMemory)

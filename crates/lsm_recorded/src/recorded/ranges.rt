@@ -1,15 +1,14 @@
 // Reads of many keys that a journal keeps.
-ghost use Rattle.std.specs.Prelude.{◌≡◌, ◌≤◌, [], ◌∷◌, None, map, IfOk, IfErr, OnOk, OnErr};
+ghost use Rattle.std.specs.Prelude.{◌≡◌, ◌≤◌, [], ◌∷◌, None, OnOk, OnErr};
 ghost use Rattle.lsm_below.specs.Entries.{above};
 ghost use Rattle.lsm_model.specs.Views.{held};
 ghost use Rattle.lsm_model.specs.Beginnings.{shown_by};
-ghost use Rattle.lsm_model.specs.Journal.{IsKept, ReadAgrees};
+ghost use Rattle.lsm_model.specs.Journal.{ReadAgrees};
 ghost use Rattle.lsm_model.specs.declared.journal.JournalEntry.TheVariants.{Read as ReadEntry};
 ghost use Rattle.lsm_model.specs.declared.question.Question.TheVariants.{Between, Prefix};
 ghost use Rattle.lsm_model.specs.declared.question.Answer.TheVariants.{Pairs as PairsAnswer};
-ghost use Rattle.lsm_iter.specs.Guards.{pair_of};
-ghost use Rattle.lsm_state.specs.Ranges.{Ranges, Prefixes, IsListStep, IsRangeStep, IsPrefixStep};
-ghost use Rattle.lsm_recorded.specs.Calls.{NotesPairs};
+ghost use Rattle.lsm_state.specs.Ranges.{Ranges, Prefixes, IsListStep};
+ghost use Rattle.lsm_recorded.specs.Calls.{ReadsPairs, NotesPairs};
 ghost use Rattle.lsm_recorded.specs.Passes.{Notes};
 ghost use Rattle.lsm_state.specs.Listing.{Lists, ListsPrefix};
 
@@ -25,8 +24,6 @@ use std::alloc::AllocError;
 use std::ops::Bound;
 
 impl<S: Store> Recorded<S> {
-    ghost use Rattle.lsm_recorded.specs.Recorded.{RefusesRecorded};
-
     /// What a snapshot shows in bounds, as `TreeState::range`: an iterator that makes no list, and no entry of the
     /// journal. Outside dropped ranges what it has left is what the replay of the journal has there.
     pub fn create_range(
@@ -34,12 +31,7 @@ impl<S: Store> Recorded<S> {
         bounds: &(Bound<UserKey>, Bound<UserKey>),
         snapshot: SeqNo,
     ) -> Result<TreeIter, Error>
-        ensures core { IfOk result (λ iter. Ranges self.now.tree.core None bounds.now.0 bounds.now.1 snapshot iter.left) }
-        ensures step { IfOk result (λ iter. IsRangeStep self.now.tree.core bounds.now.0 bounds.now.1 snapshot iter.left) }
-        ensures replay { IfOk result (λ iter. ReadAgrees (shown_by self.now.opened) self.now.journal (ReadEntry snapshot (Between bounds.now.0 bounds.now.1) (PairsAnswer (map pair_of iter.left)))) }
-        ensures above { IfOk result (λ _. above (held self.now.opened) ≤ snapshot) }
-        ensures refuses { RefusesRecorded (above (held self.now.opened)) self.now.tree.core snapshot result }
-        ensures kept { above (held self.now.opened) ≤ snapshot → IsKept snapshot self.now.journal → IfErr result (λ e. e ≡ Error.OutOfMemory) }
+        ensures { ReadsPairs (Between bounds.now.0 bounds.now.1) (λ iter. iter.left) (λ c left. Ranges c None bounds.now.0 bounds.now.1 snapshot left) snapshot result self.now }
     {
         reads_are_sound();
         if snapshot < self.least {
@@ -50,12 +42,7 @@ impl<S: Store> Recorded<S> {
 
     /// What a snapshot shows of the keys that begin so, as `create_range`.
     pub fn create_prefix(&self, prefix: &UserKey, snapshot: SeqNo) -> Result<TreeIter, Error>
-        ensures core { IfOk result (λ iter. Prefixes self.now.tree.core None prefix.now snapshot iter.left) }
-        ensures step { IfOk result (λ iter. IsPrefixStep self.now.tree.core prefix.now snapshot iter.left) }
-        ensures replay { IfOk result (λ iter. ReadAgrees (shown_by self.now.opened) self.now.journal (ReadEntry snapshot (Prefix prefix.now) (PairsAnswer (map pair_of iter.left)))) }
-        ensures above { IfOk result (λ _. above (held self.now.opened) ≤ snapshot) }
-        ensures refuses { RefusesRecorded (above (held self.now.opened)) self.now.tree.core snapshot result }
-        ensures kept { above (held self.now.opened) ≤ snapshot → IsKept snapshot self.now.journal → IfErr result (λ e. e ≡ Error.OutOfMemory) }
+        ensures { ReadsPairs (Prefix prefix.now) (λ iter. iter.left) (λ c left. Prefixes c None prefix.now snapshot left) snapshot result self.now }
     {
         reads_are_sound();
         if snapshot < self.least {
@@ -70,12 +57,7 @@ impl<S: Store> Recorded<S> {
         bounds: &(Bound<UserKey>, Bound<UserKey>),
         snapshot: SeqNo,
     ) -> Result<Pairs<'a>, Error>
-        ensures core { IfOk result (λ pairs. Ranges self.now.tree.core None bounds.now.0 bounds.now.1 snapshot pairs) }
-        ensures step { IfOk result (λ pairs. IsRangeStep self.now.tree.core bounds.now.0 bounds.now.1 snapshot pairs) }
-        ensures replay { IfOk result (λ pairs. ReadAgrees (shown_by self.now.opened) self.now.journal (ReadEntry snapshot (Between bounds.now.0 bounds.now.1) (PairsAnswer (map pair_of pairs)))) }
-        ensures above { IfOk result (λ _. above (held self.now.opened) ≤ snapshot) }
-        ensures refuses { RefusesRecorded (above (held self.now.opened)) self.now.tree.core snapshot result }
-        ensures kept { above (held self.now.opened) ≤ snapshot → IsKept snapshot self.now.journal → IfErr result (λ e. e ≡ Error.OutOfMemory) }
+        ensures { ReadsPairs (Between bounds.now.0 bounds.now.1) (λ pairs. pairs) (λ c left. Ranges c None bounds.now.0 bounds.now.1 snapshot left) snapshot result self.now }
     {
         reads_are_sound();
         if snapshot < self.least {
@@ -90,12 +72,7 @@ impl<S: Store> Recorded<S> {
         prefix: &UserKey,
         snapshot: SeqNo,
     ) -> Result<Pairs<'a>, Error>
-        ensures core { IfOk result (λ pairs. Prefixes self.now.tree.core None prefix.now snapshot pairs) }
-        ensures step { IfOk result (λ pairs. IsPrefixStep self.now.tree.core prefix.now snapshot pairs) }
-        ensures replay { IfOk result (λ pairs. ReadAgrees (shown_by self.now.opened) self.now.journal (ReadEntry snapshot (Prefix prefix.now) (PairsAnswer (map pair_of pairs)))) }
-        ensures above { IfOk result (λ _. above (held self.now.opened) ≤ snapshot) }
-        ensures refuses { RefusesRecorded (above (held self.now.opened)) self.now.tree.core snapshot result }
-        ensures kept { above (held self.now.opened) ≤ snapshot → IsKept snapshot self.now.journal → IfErr result (λ e. e ≡ Error.OutOfMemory) }
+        ensures { ReadsPairs (Prefix prefix.now) (λ pairs. pairs) (λ c left. Prefixes c None prefix.now snapshot left) snapshot result self.now }
     {
         reads_are_sound();
         if snapshot < self.least {

@@ -9,13 +9,19 @@ use Rattle.lsm_logged.specs.Keeping.{SeenLogged}
 use Rattle.lsm_logged.specs.Removing.{KeepsKnown}
 use Rattle.lsm_logged.specs.Acting.{FlushesAct}
 use Rattle.lsm_logged.proofs.FlushActs.{unsure_flush, refused_flush, installed_flush, none_flush}
-use Rattle.lsm_logged.proofs.Known.{known_still, leaves_logged, all_left, gone_left}
+use Rattle.lsm_logged.proofs.Known.{LeavesLogged, known_still, leaves_logged, all_left, gone_left}
 use Rattle.lsm_logged.proofs.Removals.{passes_alone, none_alone, leaves_behind}
 use Rattle.lsm_logged.proofs.Gone.{gone_behind, cleaned_cause}
 use Rattle.lsm_logged.proofs.Seen.{logged_with}
 use Rattle.lsm_state.specs.Cleaning.{none_drawn}
 use Rattle.lsm_state.specs.Files.{FlushesFiles}
+use Rattle.lsm_logged.proofs.logged.Logged.flush.Given.{Over}
 use Rattle.lsm_logged.proofs.logged.Logged.flush.Goals as goal
+
+-- what is left where the log was cleaned
+module _ (g : Over) (c : goal.After-clean_log g) (tells : g.S.Store.tells) where
+  left : LeavesLogged g.S.Store.world c.args.self.now c.clean_log.new.self
+  left = leaves_logged g.S.Store.world c.self.inside.tree c.flush.new.self c.self.inside.numbers.items c.self.inside.doubted c.clean_log.new.self c.args.self.now c.self.view_is (c.flush.ensures.upholds tells) c.clean_log.ensures.cleans.core (c.clean_log.ensures.upholds tells) (c.clean_log.ensures.passes tells) (c.clean_log.ensures.known tells)
 
 pub returns-in_err-flushed-clause-passes : goal.returns-in_err-flushed-clause-passes
 returns-in_err-flushed-clause-passes g c tells =
@@ -26,16 +32,13 @@ returns-in_err-flushed-clause-behind g c tells =
     none_alone g.S.Store.world c.self.inside.tree c.flush.new.self c.self.inside.numbers.items c.self.inside.doubted c.args.self.now c.self.view_is (c.flush.ensures.upholds tells).passes
 
 pub returns-in-Some-clause-passes : goal.returns-in-Some-clause-passes
-returns-in-Some-clause-passes g c tells =
-    (leaves_logged g.S.Store.world c.self.inside.tree c.flush.new.self c.self.inside.numbers.items c.self.inside.doubted c.clean_log.new.self c.args.self.now c.self.view_is (c.flush.ensures.upholds tells) c.clean_log.ensures.cleans.core (c.clean_log.ensures.upholds tells) (c.clean_log.ensures.passes tells) (c.clean_log.ensures.known tells)).left.passed
+returns-in-Some-clause-passes g c tells = (left g c tells).left.passed
 
 pub returns-in-Some-clause-behind : goal.returns-in-Some-clause-behind
-returns-in-Some-clause-behind g c tells =
-    (leaves_logged g.S.Store.world c.self.inside.tree c.flush.new.self c.self.inside.numbers.items c.self.inside.doubted c.clean_log.new.self c.args.self.now c.self.view_is (c.flush.ensures.upholds tells) c.clean_log.ensures.cleans.core (c.clean_log.ensures.upholds tells) (c.clean_log.ensures.passes tells) (c.clean_log.ensures.known tells)).left.either
+returns-in-Some-clause-behind g c tells = (left g c tells).left.either
 
 pub returns-in-Some-clause-upholds : goal.returns-in-Some-clause-upholds
-returns-in-Some-clause-upholds g c tells =
-    (leaves_logged g.S.Store.world c.self.inside.tree c.flush.new.self c.self.inside.numbers.items c.self.inside.doubted c.clean_log.new.self c.args.self.now c.self.view_is (c.flush.ensures.upholds tells) c.clean_log.ensures.cleans.core (c.clean_log.ensures.upholds tells) (c.clean_log.ensures.passes tells) (c.clean_log.ensures.known tells)).left.files
+returns-in-Some-clause-upholds g c tells = (left g c tells).left.files
 
 pub returns-in-None-clause-behind : goal.returns-in-None-clause-behind
 returns-in-None-clause-behind g c tells =
@@ -109,8 +112,7 @@ returns-then-is_flush_unsure-clause-known g c tells =
     subst (λ (t : SeenLogged g.row.S.Denot). KeepsKnown (w t.store) (w t.store) t.numbers t.numbers) c.self.view_is (known_still (w i.tree.store) i.numbers.items)
 
 pub returns-in-Some-clause-known : goal.returns-in-Some-clause-known
-returns-in-Some-clause-known g c tells =
-    (leaves_logged g.S.Store.world c.self.inside.tree c.flush.new.self c.self.inside.numbers.items c.self.inside.doubted c.clean_log.new.self c.args.self.now c.self.view_is (c.flush.ensures.upholds tells) c.clean_log.ensures.cleans.core (c.clean_log.ensures.upholds tells) (c.clean_log.ensures.passes tells) (c.clean_log.ensures.known tells)).known
+returns-in-Some-clause-known g c tells = (left g c tells).known
 
 pub returns-in-Some-clause-passed_are_gone : goal.returns-in-Some-clause-passed_are_gone
 returns-in-Some-clause-passed_are_gone g c tells cleaned =

@@ -15,26 +15,29 @@ use Rattle.lsm_logged.specs.Flushing.{RemovesBehind}
 use Rattle.lsm_logged.specs.Acting.{RegistersAct}
 use Rattle.lsm_logged.proofs.RegisterActs.{spent_acts, refused_acts, registered_acts}
 use Rattle.lsm_logged.proofs.Gone.{gone_behind, cleaned_cause}
-use Rattle.lsm_logged.proofs.Known.{known_still, leaves_logged, all_left, gone_left}
+use Rattle.lsm_logged.proofs.Known.{LeavesLogged, known_still, leaves_logged, all_left, gone_left}
 use Rattle.lsm_logged.proofs.Removals.{none_behind, passes_alone, none_alone, leaves_behind}
 use Rattle.lsm_logged.proofs.Seen.{logged_with}
+use Rattle.lsm_logged.proofs.logged.Logged.register_tables.Given.{Over}
 use Rattle.lsm_logged.proofs.logged.Logged.register_tables.Goals as goal
+
+-- what is left where the log was cleaned
+module _ (g : Over) (c : goal.After-clean_log g) (tells : g.S.Store.tells) where
+  left : LeavesLogged g.S.Store.world c.args.self.now c.clean_log.new.self
+  left = leaves_logged g.S.Store.world c.self.inside.tree c.register_tables.new.self c.self.inside.numbers.items c.self.inside.doubted c.clean_log.new.self c.args.self.now c.self.view_is (c.register_tables.ensures.upholds tells) c.clean_log.ensures.cleans.core (c.clean_log.ensures.upholds tells) (c.clean_log.ensures.passes tells) (c.clean_log.ensures.known tells)
 
 pub returns-in_err-registered-clause-passes : goal.returns-in_err-registered-clause-passes
 returns-in_err-registered-clause-passes g c tells =
     passes_alone g.S.Store.world c.self.inside.tree c.register_tables.new.self c.self.inside.numbers.items c.self.inside.doubted c.args.self.now c.self.view_is (c.register_tables.ensures.upholds tells).passes
 
 pub returns-clause-passes : goal.returns-clause-passes
-returns-clause-passes g c tells =
-    (leaves_logged g.S.Store.world c.self.inside.tree c.register_tables.new.self c.self.inside.numbers.items c.self.inside.doubted c.clean_log.new.self c.args.self.now c.self.view_is (c.register_tables.ensures.upholds tells) c.clean_log.ensures.cleans.core (c.clean_log.ensures.upholds tells) (c.clean_log.ensures.passes tells) (c.clean_log.ensures.known tells)).left.passed
+returns-clause-passes g c tells = (left g c tells).left.passed
 
 pub returns-clause-behind : goal.returns-clause-behind
-returns-clause-behind g c tells =
-    (leaves_logged g.S.Store.world c.self.inside.tree c.register_tables.new.self c.self.inside.numbers.items c.self.inside.doubted c.clean_log.new.self c.args.self.now c.self.view_is (c.register_tables.ensures.upholds tells) c.clean_log.ensures.cleans.core (c.clean_log.ensures.upholds tells) (c.clean_log.ensures.passes tells) (c.clean_log.ensures.known tells)).left.either
+returns-clause-behind g c tells = (left g c tells).left.either
 
 pub returns-clause-upholds : goal.returns-clause-upholds
-returns-clause-upholds g c tells =
-    (leaves_logged g.S.Store.world c.self.inside.tree c.register_tables.new.self c.self.inside.numbers.items c.self.inside.doubted c.clean_log.new.self c.args.self.now c.self.view_is (c.register_tables.ensures.upholds tells) c.clean_log.ensures.cleans.core (c.clean_log.ensures.upholds tells) (c.clean_log.ensures.passes tells) (c.clean_log.ensures.known tells)).left.files
+returns-clause-upholds g c tells = (left g c tells).left.files
 
 pub returns-then-self-clause-upholds : goal.returns-then-self-clause-upholds
 returns-then-self-clause-upholds g c tells =
@@ -123,8 +126,7 @@ returns-in_err-registered-clause-known g c tells =
     all_left g.S.Store.world c.self.inside.tree c.register_tables.new.self c.self.inside.numbers.items c.self.inside.doubted c.args.self.now c.self.view_is (c.register_tables.ensures.upholds tells).passes
 
 pub returns-clause-known : goal.returns-clause-known
-returns-clause-known g c tells =
-    (leaves_logged g.S.Store.world c.self.inside.tree c.register_tables.new.self c.self.inside.numbers.items c.self.inside.doubted c.clean_log.new.self c.args.self.now c.self.view_is (c.register_tables.ensures.upholds tells) c.clean_log.ensures.cleans.core (c.clean_log.ensures.upholds tells) (c.clean_log.ensures.passes tells) (c.clean_log.ensures.known tells)).known
+returns-clause-known g c tells = (left g c tells).known
 
 pub returns-clause-passed_are_gone : goal.returns-clause-passed_are_gone
 returns-clause-passed_are_gone g c tells installed cleaned =

@@ -1,20 +1,21 @@
 use Rattle.std.proofs.Common.{subst}
 use Rattle.lsm_versions.specs.Levels.{placed_of}
-use Rattle.lsm_recorded.specs.Recorded.{Stays}
+use Rattle.lsm_recorded.specs.Recorded.{IsRecorded, Stays}
 use Rattle.lsm_recorded.proofs.FlushingLemmas.{unnoted_recorded, spent_goes}
+use Rattle.lsm_recorded.proofs.recorded.Recorded.abandon_flush.Given.{Over}
 use Rattle.lsm_recorded.proofs.recorded.Recorded.abandon_flush.Goals as goal
 
+-- what holds of it holds afterwards, and what snapshots see stays
+module _ (g : Over) (c : goal.After-abandon_flush g) where
+  kept : IsRecorded (placed_of c.self.inside.opened.levels) c.self.inside.least c.self.inside.marks c.self.inside.floor c.abandon_flush.new.self.core c.self.inside.journal.items × Stays c.self.inside.core.core c.abandon_flush.new.self.core
+  kept =
+      let i = c.self.inside in
+      let old = i.core.core in
+      let new = c.abandon_flush.new.self.core in
+      unnoted_recorded (placed_of i.opened.levels) i.least i.marks c.reads_are_sound.ensures i.floor old new i.journal.items (c.flushes_keep_reads.ensures.silent old new c.abandon_flush.ensures.deeds) (spent_goes c.args.job.number old new c.abandon_flush.ensures.core) c.self.invariant
+
 pub invariant_of-self : goal.invariant_of-self
-invariant_of-self g c =
-    let i = c.self.inside in
-    let old = i.core.core in
-    let new = c.abandon_flush.new.self.core in
-    (unnoted_recorded (placed_of i.opened.levels) i.least i.marks c.reads_are_sound.ensures i.floor old new i.journal.items (c.flushes_keep_reads.ensures.silent old new c.abandon_flush.ensures.deeds) (spent_goes c.args.job.number old new c.abandon_flush.ensures.core) c.self.invariant).0
+invariant_of-self g c = (kept g c).0
 
 pub returns-clause-views : goal.returns-clause-views
-returns-clause-views g c =
-    let i = c.self.inside in
-    let old = i.core.core in
-    let new = c.abandon_flush.new.self.core in
-    subst (λ t. Stays t.tree.core new) c.self.view_is
-    (unnoted_recorded (placed_of i.opened.levels) i.least i.marks c.reads_are_sound.ensures i.floor old new i.journal.items (c.flushes_keep_reads.ensures.silent old new c.abandon_flush.ensures.deeds) (spent_goes c.args.job.number old new c.abandon_flush.ensures.core) c.self.invariant).1
+returns-clause-views g c = subst (λ t. Stays t.tree.core c.abandon_flush.new.self.core) c.self.view_is (kept g c).1

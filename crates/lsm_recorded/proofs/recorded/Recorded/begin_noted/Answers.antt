@@ -1,20 +1,23 @@
 use Rattle.std.proofs.Common.{◌∙◌, ◌++◌, ap, subst}
 use Rattle.lsm_versions.specs.Levels.{placed_of}
-use Rattle.lsm_recorded.specs.Recorded.{StaysBehind}
+use Rattle.lsm_recorded.specs.Recorded.{IsRecorded, StaysBehind}
 use Rattle.lsm_recorded.proofs.CompactingLemmas.{begin_recorded}
+use Rattle.lsm_recorded.proofs.recorded.Recorded.begin_noted.Given.{Over}
 use Rattle.lsm_recorded.proofs.recorded.Recorded.begin_noted.Goals as goal
 
+-- what holds of it holds afterwards, and what snapshots see stays
+module _ (g : Over) (c : goal.After-put_entries g) where
+  kept : IsRecorded (placed_of c.self.inside.opened.levels) c.self.inside.least c.self.inside.marks c.put_entries.new.floor c.begin_chosen-begun.new.tree.core c.put_entries.new.journal.items × StaysBehind c.self.inside.journal.items c.put_entries.new.journal.items c.self.inside.core.core c.begin_chosen-begun.new.tree.core
+  kept =
+      let i = c.self.inside in
+      let begun = c.begin_chosen-begun in
+      begin_recorded (placed_of i.opened.levels) i.least i.marks c.reads_are_sound.ensures i.floor c.put_entries.new.floor i.core.core begun.new.tree.core i.journal.items c.put_entries.new.journal.items c.noted_compactions_keep_reads.ensures c.args.chosen.answer c.args.options begun.result.0 begun.result.1.items begun.ensures.begins (c.put_entries.ensures.noted.behind ∙ ap (λ j. j ++ begun.result.1.items) c.make_copies-made.ensures.journal) c.put_entries.ensures.floor c.self.invariant
+
 pub invariant_of-self-2 : goal.invariant_of-self-2
-invariant_of-self-2 g c =
-    let i = c.self.inside in
-    let begun = c.begin_chosen-begun in
-    (begin_recorded (placed_of i.opened.levels) i.least i.marks c.reads_are_sound.ensures i.floor c.put_entries.new.floor i.core.core begun.new.tree.core i.journal.items c.put_entries.new.journal.items c.noted_compactions_keep_reads.ensures c.args.chosen.answer c.args.options begun.result.0 begun.result.1.items begun.ensures.begins (c.put_entries.ensures.noted.behind ∙ ap (λ j. j ++ begun.result.1.items) c.make_copies-made.ensures.journal) c.put_entries.ensures.floor c.self.invariant).0
+invariant_of-self-2 g c = (kept g c).0
 
 pub returns-clause-views : goal.returns-clause-views
-returns-clause-views g c =
-    let i = c.self.inside in
-    let begun = c.begin_chosen-begun in
-    subst (λ t. StaysBehind t.journal c.put_entries.new.journal.items t.tree.core begun.new.tree.core) c.self.view_is ((begin_recorded (placed_of i.opened.levels) i.least i.marks c.reads_are_sound.ensures i.floor c.put_entries.new.floor i.core.core begun.new.tree.core i.journal.items c.put_entries.new.journal.items c.noted_compactions_keep_reads.ensures c.args.chosen.answer c.args.options begun.result.0 begun.result.1.items begun.ensures.begins (c.put_entries.ensures.noted.behind ∙ ap (λ j. j ++ begun.result.1.items) c.make_copies-made.ensures.journal) c.put_entries.ensures.floor c.self.invariant).1)
+returns-clause-views g c = subst (λ t. StaysBehind t.journal c.put_entries.new.journal.items t.tree.core c.begin_chosen-begun.new.tree.core) c.self.view_is (kept g c).1
 
 pub returns-clause-files : goal.returns-clause-files
 returns-clause-files g c = rw (← c.self.view_is) c.begin_chosen-begun.ensures.files

@@ -1,26 +1,17 @@
-use Rattle.std.proofs.Common.{◌≤◌, arith, map, refl, subst, IfOk}
-use Rattle.lsm_below.specs.Entries.{above}
-use Rattle.lsm_model.specs.Views.{held}
-use Rattle.lsm_model.specs.Beginnings.{shown_by}
-use Rattle.lsm_model.specs.Journal.{ReadAgrees}
-use Rattle.lsm_model.specs.declared.journal.JournalEntry.TheVariants.{Read}
+use Rattle.std.proofs.Common.{◌≤◌, None, arith, refl, subst}
 use Rattle.lsm_model.specs.declared.question.Question.TheVariants.{Prefix}
-use Rattle.lsm_model.specs.declared.question.Answer.TheVariants.{Pairs}
 use Rattle.lsm_versions.specs.Levels.{placed_of}
-use Rattle.lsm_iter.specs.Guards.{pair_of}
-use Rattle.lsm_state.specs.Ranges.{IsPrefixStep}
-use Rattle.lsm_recorded.proofs.RecordedLemmas.{lists_agree}
+use Rattle.lsm_state.specs.Ranges.{Prefixes}
+use Rattle.lsm_state.specs.Reading.{ReadsPrefix}
+use Rattle.lsm_recorded.specs.Calls.{ReadsPairs}
+use Rattle.lsm_recorded.proofs.RecordedLemmas.{pairs_read}
 use Rattle.lsm_recorded.proofs.recorded.Recorded.create_prefix.Goals as goal
 
-pub returns-clause-step : goal.returns-clause-step
-returns-clause-step g c =
-    let step = subst (λ p. IfOk c.prefix.result (λ iter. IsPrefixStep c.self.inside.core.core p c.args.snapshot iter.left)) c.as_slice.ensures (c.prefix.ensures.step refl) in
-    subst (λ t. IfOk c.prefix.result (λ iter. IsPrefixStep t.tree.core c.args.prefix.now c.args.snapshot iter.left)) c.self.view_is step
-
-pub returns-clause-replay : goal.returns-clause-replay
-returns-clause-replay g c =
+pub returns : goal.returns
+returns g c =
     let i = c.self.inside in
     let s = c.args.snapshot in
-    let up : above (held (placed_of i.opened.levels)) ≤ s = let not_below = c.if-snapshot-self.false in let is = c.self.invariant.least_is in omega arith in
-    subst (λ t. IfOk c.prefix.result (λ iter. ReadAgrees (shown_by t.opened) t.journal (Read s (Prefix c.args.prefix.now) (Pairs (map pair_of iter.left))))) c.self.view_is
-    (lists_agree (placed_of i.opened.levels) i.least (λ iter. map pair_of iter.left) c.reads_are_sound.ensures i.marks i.floor i.core.core i.journal.items (Prefix c.args.prefix.now) s c.prefix.result c.self.invariant up (subst (λ p. IfOk c.prefix.result (λ iter. IsPrefixStep i.core.core p s iter.left)) c.as_slice.ensures (c.prefix.ensures.step refl)))
+    let from : i.least ≤ s = omega (arith, c.if-snapshot-self.false) in
+    let read : ReadsPrefix i.core.core None c.args.prefix.now s c.prefix.result = subst (λ p. ReadsPrefix i.core.core None p s c.prefix.result) c.as_slice.ensures c.prefix.ensures in
+    subst (ReadsPairs (Prefix c.args.prefix.now) (λ iter. iter.left) (λ k out. Prefixes k None c.args.prefix.now s out) s c.prefix.result) c.self.view_is
+    (pairs_read (placed_of i.opened.levels) i.least (λ iter. iter.left) (λ k out. Prefixes k None c.args.prefix.now s out) c.reads_are_sound.ensures i.marks i.floor i.core i.journal.items (Prefix c.args.prefix.now) s c.prefix.result c.self.invariant from read.ok (read.step refl) read.refuses)

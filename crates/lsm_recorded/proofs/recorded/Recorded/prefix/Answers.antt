@@ -10,5 +10,5 @@ note_listed-requires g c =
     let list = c.in_ok-list.list in
     record {
       step = subst (λ p. IsListStep core (Prefix p) s list) (sym c.in_ok-share.ensures) (subst (λ l. IsListStep core (Prefix c.args.prefix.now) s l) (sym c.in_ok-list.ensures) c.in_ok-pairs.ensures.step);
-      above = c.in_ok-pairs.ensures.above;
+      above = c.in_ok-pairs.ensures.not_below;
     }

@@ -12,5 +12,5 @@ note_listed-requires g c =
     let step = subst (λ l. IsListStep core asked s l) (sym c.in_ok-list.ensures) c.in_ok-pairs.ensures.step in
     record {
       step = subst (λ q. IsListStep core q s list) (sym c.in_ok-question.ensures) step;
-      above = c.in_ok-pairs.ensures.above;
+      above = c.in_ok-pairs.ensures.not_below;
     }
