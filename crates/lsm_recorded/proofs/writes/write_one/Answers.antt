@@ -24,7 +24,7 @@ write_at_mark-requires g c =
     ap (λ e. e.key.seqno) made ∙ op_number c.in-Some.key c.get-number.result c.in-Some.op ∙ first ∙ sym (ap (λ t. t.core.seqno) c.house-entry.ensures.stays)
 
 -- the one write of the batch, whose entry is made under the next number
-module _ (g : Over) (c : goal.After-write_at_mark g) where
+module _ (g : Over) (c : goal.After-drop-ops-2 g) where
   taken : c.args.ops.items ≡ (c.in-Some.key, c.in-Some.op) ∷ []
   taken = popped_one c.args.ops.items c.pop.new.self.items (c.in-Some.key, c.in-Some.op) (c.pop.ensures.items ∙ ap (λ o. c.pop.new.self.items ++ option_to_list o) c.in-Some.is) c.requires
 
