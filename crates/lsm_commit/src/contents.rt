@@ -32,7 +32,7 @@ pub(crate) fn write_file<S: Store>(store: &mut S, id: TableId, content: &Bytes) 
 }
 
 /// `write_contents`, told of the names alone.
-fn write_files<S: Store>(
+fn write_named<S: Store>(
     alloc: Global,
     store: &mut S,
     next: &mut TableId,
@@ -95,5 +95,5 @@ pub fn write_contents<S: Store>(
     ensures counts { CountsFaults (S.world store.old) (S.world store.new) result }
 {
     names_are_apart();
-    write_files(alloc, store, next, contents)
+    write_named(alloc, store, next, contents)
 }

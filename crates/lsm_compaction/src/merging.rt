@@ -6,7 +6,7 @@ ghost use Rattle.lsm_tables.specs.Image.{IsTable};
 ghost use Rattle.lsm_versions.specs.Levels.{AreCovered};
 ghost use Rattle.lsm_compaction.specs.Merges.{sources_in, AreFilesOf, IsSoundRun};
 
-use crate::writing::write_files;
+use crate::writing::spell_files;
 use crate::{MergeSettings, RunSource};
 use bytes::Bytes;
 use lsm_below::{Error, Run, compact};
@@ -63,5 +63,5 @@ pub fn merge_runs(
     see_runs(runs);
     let sources = sources_of(alloc, runs)?;
     let stream = compact(alloc, sources, settings.watermark, settings.evicts())?;
-    write_files(alloc, stream, settings.target_size, settings.made_at)
+    spell_files(alloc, stream, settings.target_size, settings.made_at)
 }

@@ -55,7 +55,7 @@ fn take_entry<I: AsEntry>(
 /// # Errors
 ///
 /// Refused where the source is, or for want of memory.
-pub(crate) fn write_files<S: Source<Error = Error>>(
+pub(crate) fn spell_files<S: Source<Error = Error>>(
     alloc: Global,
     mut source: S,
     target: u64,

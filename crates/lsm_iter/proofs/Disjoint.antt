@@ -22,7 +22,7 @@ use Rattle.lsm_iter.specs.Shown.{by_key}
 use Rattle.lsm_iter.specs.Reads.{at}
 use Rattle.lsm_iter.specs.Left.{copied}
 use Rattle.lsm_iter.specs.Trims.{counts}
-use Rattle.lsm_iter.specs.Shared.{IsSound}
+use Rattle.lsm_iter.specs.Sound.{IsSound}
 use Rattle.lsm_iter.proofs.Rises.{rises_filter}
 use Rattle.lsm_iter.proofs.Tops.{each_first, each_counted, rises_tops}
 

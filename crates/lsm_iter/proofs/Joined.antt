@@ -1,16 +1,14 @@
 -- Lists that are one behind the other, from both ends.
-use Rattle.std.proofs.Common.{◌≡◌, ◌≢◌, ℕ, ◌+◌, ◌-◌, ◌<◌, eqb, false, is_some, option_copied, List, [], ◌∷◌, ◌++◌, length, get_or, set, take, Option, Some, None, refl, sym, ap, ◌∙◌, subst, arith, append-nil, append_assoc}
-use Rattle.std.specs.Borrow.{Bor}
+use Rattle.std.proofs.Common.{◌≡◌, ◌≢◌, ℕ, ◌+◌, ◌-◌, eqb, false, List, [], ◌∷◌, ◌++◌, length, get_or, set, take, Option, Some, None, refl, sym, ap, ◌∙◌, subst, arith, append-nil, append_assoc}
 use Rattle.std.proofs.lemmas.Bool.{eqb-false}
 use Rattle.std.proofs.lemmas.Grind.{flat_map-append}
 use Rattle.std.proofs.lemmas.List.{take_all, take_more, take_more_set, take-set-le, length-set, get_or-set_same}
 use Rattle.std.proofs.lemmas.List.Elements.{All-take}
 use Rattle.lsm_below.specs.Entries.{Entry}
-use Rattle.lsm_iter.specs.Left.{last_item, end_item, Takes}
-use Rattle.lsm_iter.specs.Shared.{joined, AreFull}
-use Rattle.lsm_iter.specs.declared.tree_iter.End.{End}
+use Rattle.lsm_iter.specs.Left.{last_item, Takes}
+use Rattle.lsm_iter.specs.Joined.{joined, AreFull}
 use Rattle.lsm_iter.specs.declared.tree_iter.End.TheVariants.{Back}
-use Rattle.lsm_iter.proofs.Tops.{last_append, no_last}
+use Rattle.lsm_iter.proofs.Tops.{last_append}
 use Rattle.lsm_iter.proofs.Trims.{takes_back}
 
 joined_push : (lists : List (List Entry)) (p : List Entry) → joined (lists ++ p ∷ []) ≡ joined lists ++ p
@@ -70,16 +68,6 @@ module _ (lists : List (List Entry)) (n : ℕ) (p : List Entry) (one : n + 1 ≡
   back_pushed e q is =
       let front = joined (take n lists) in
       ap joined (set_last q) ∙ joined_push (take n lists) q ∙ ap (λ l. front ++ l) is ∙ sym (append_assoc front p (e ∷ [])) ∙ ap (λ l. l ++ e ∷ []) (sym (ap joined split_last ∙ joined_push (take n lists) p))
-
--- ---- as the code goes
-
-pub back_seen : (lists : List (List Entry)) (len : ℕ) (p : List Entry) (end : End) → len ≡ length lists → 0 < len → p ≡ get_or lists (len - 1) p → AreFull lists → end ≡ Back → end_item end p ≡ end_item end (joined lists)
-back_seen lists len p end is some read full at_back =
-    ap (λ x. end_item x p) at_back ∙ sym (ap (λ x. end_item x (joined lists)) at_back ∙ back_peeked lists (len - 1) p (omega (arith, is, some)) read full)
-
-pub none_left : (r : Option (Bor Entry)) (p : List Entry) → is_some r ≡ false → option_copied r ≡ last_item p → p ≡ []
-none_left None p none is = no_last p (sym is)
-none_left (Some e) p none is = absurd (cc none)
 
 pub none_counted : (p : List Entry) → length p ≡ 0 → p ≡ []
 none_counted [] h = refl

@@ -6,7 +6,7 @@ use Rattle.std.proofs.lemmas.List.Elements.{All-set, All-tail}
 use Rattle.std.proofs.Math.ListN.{get_or-map}
 use Rattle.lsm_below.specs.Entries.{Entry}
 use Rattle.lsm_iter.specs.Left.{last_item, end_item, Takes}
-use Rattle.lsm_iter.specs.Shared.{joined, AreFull}
+use Rattle.lsm_iter.specs.Joined.{joined, AreFull}
 use Rattle.lsm_iter.specs.declared.tree_iter.End.{End}
 use Rattle.lsm_iter.specs.declared.tree_iter.End.TheVariants.{Front, Back}
 use Rattle.lsm_iter.proofs.Trims.{takes_front}
@@ -45,17 +45,7 @@ first_taken : (p q : List Entry) → p ≢ [] → Takes Front p (end_item Front 
 first_taken [] q some h = absurd (some refl)
 first_taken (e ∷ p) q some h = (e, h)
 
-first_with : (p rest : List Entry) → p ≢ [] → end_item Front p ≡ end_item Front (p ++ rest)
-first_with [] rest some = absurd (some refl)
-first_with (e ∷ p) rest some = refl
-
 module _ {P : Type 0} (left : P → List Entry) where
-  pub first_seen : (items : List P) (x : P) → 0 < length items → x ≡ get_or items 0 x → AreFull (map left items) → end_item Front (left x) ≡ end_item Front (joined (map left items))
-  first_seen [] x some read full = absurd (omega arith)
-  first_seen (z ∷ zs) x some read full =
-      let has : left x ≢ [] = λ none. full 0 (left z) (omega arith) (ap left (sym read) ∙ none) in
-      first_with (left x) (joined (map left zs)) has ∙ ap (λ l. end_item Front (l ++ joined (map left zs))) (ap left read)
-
   pub first_skipped : (items : List P) (x y : P) → 0 < length items → x ≡ get_or items 0 x → AreFull (map left items) → Takes Front (left x) (end_item Front (left x)) (left y)
       → Takes Front (joined (map left items)) (end_item Front (joined (map left items))) (joined (map left (set items 0 y)))
   first_skipped [] x y some read full takes = absurd (omega arith)

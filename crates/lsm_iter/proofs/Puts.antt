@@ -5,7 +5,6 @@ use Rattle.std.specs.declared.ops.Bound.{Bound}
 use Rattle.std.proofs.lemmas.Grind.{flat_map-append}
 use Rattle.std.proofs.lemmas.List.{map_more, map-append, take_more, take-append-drop, length-append}
 use Rattle.std.proofs.lemmas.List.Folds.{flat_map-map}
-use Rattle.std.proofs.lemmas.List.Sums.{sum_by-append}
 use Rattle.std.proofs.lemmas.List.Elements.{All-append, All-map, All-weaker, All-nil, All-cons, All-head, All-tail, All-from_recursion, recursion_from_All, filter-append}
 use Rattle.lsm_below.specs.Each.{each_left, each_right, each_both}
 use Rattle.lsm_below.specs.Keys.{Bytes}
@@ -24,7 +23,7 @@ use Rattle.lsm_iter.specs.Reads.{Part, at, parts_at, state_of, index_of, counted
 use Rattle.lsm_iter.specs.Shown.{Shows}
 use Rattle.lsm_iter.specs.Left.{SeenCursor, copied, copies, copied_within, left_of, held_in, newest_in, shown_list}
 use Rattle.lsm_iter.specs.Puts.{AddsCursors, PutsCursors, number_copied, owned_of}
-use Rattle.lsm_iter.specs.Shared.{IsSound}
+use Rattle.lsm_iter.specs.Sound.{IsSound}
 use Rattle.lsm_iter.proofs.Rises.{rises_filter}
 use Rattle.lsm_iter.proofs.Shown.{filter_swap}
 use Rattle.lsm_iter.proofs.Newest.{newer, newest_append, shown_all, shows_same}
@@ -116,14 +115,6 @@ pub none_owned : (copy : Bool) (l : List Entry) → l ≡ [] → cond copy (leng
 none_owned copy (e ∷ l) none = absurd (cc none)
 none_owned true [] none = refl
 none_owned false [] none = refl
-
--- one reader more
-module _ {R : Type 0} (seen : R → SeenCursor) (old : List R) (r : R) where
-  pub left_pushed : left_of (map seen (old ++ r ∷ [])) ≡ left_of (map seen old) ++ (seen r).left
-  left_pushed = ap left_of (map-append seen old (r ∷ [])) ∙ flat_map-append (λ c. c.left) (map seen old) (seen r ∷ []) ∙ ap (λ l. left_of (map seen old) ++ l) (append-nil (seen r).left)
-
-  pub held_pushed : held_in (map seen (old ++ r ∷ [])) ≡ held_in (map seen old) + (seen r).held
-  held_pushed = let sum = ap held_in (map-append seen old (r ∷ [])) ∙ sum_by-append (λ c. c.held) (map seen old) (seen r ∷ []) in omega arith
 
 -- one run more, of a level or of all
 puts_more : (low high : Bound Bytes) (s : ℕ) (ts more all : List SeenTable) (a b c : List SeenCursor) → all ≡ ts ++ more → PutsCursors low high (map (part_at s) ts) 0 a b → PutsCursors low high (map (part_at s) more) 0 b c → PutsCursors low high (map (part_at s) all) 0 a c

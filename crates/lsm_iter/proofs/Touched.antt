@@ -21,7 +21,7 @@ use Rattle.lsm_iter.specs.Trims.{counts}
 use Rattle.lsm_below.specs.Slots.{firsts}
 use Rattle.lsm_below.specs.Orders.{below_less, le_less, less_le}
 use Rattle.lsm_below.specs.Each.{each_weaker}
-use Rattle.lsm_iter.specs.Shared.{IsSound}
+use Rattle.lsm_iter.specs.Sound.{IsSound}
 use Rattle.lsm_iter.proofs.Disjoint.{left_in}
 
 -- ---- keys

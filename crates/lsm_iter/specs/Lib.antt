@@ -8,6 +8,7 @@ pub mod Cursors
 pub mod Outermost
 pub mod Puts
 pub mod Trims
-pub mod Shared
+pub mod Joined
+pub mod Sound
 pub mod Answers
 pub mod Lenders

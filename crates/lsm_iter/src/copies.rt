@@ -2,7 +2,7 @@
 ghost use Rattle.std.specs.Prelude.{◌≡◌, [], ◌∷◌, ◌++◌, length, option_copied, IfOk, OnOk, OnErr};
 ghost use Rattle.lsm_below.specs.Sums.{capped};
 ghost use Rattle.lsm_iter.specs.Left.{end_item, Takes};
-ghost use Rattle.lsm_iter.specs.Shared.{joined, AreFull};
+ghost use Rattle.lsm_iter.specs.Joined.{joined, AreFull};
 ghost use Rattle.lsm_iter.specs.declared.tree_iter.End.TheVariants.{Front, Back};
 
 use crate::End;
@@ -166,7 +166,7 @@ pub(crate) struct Copies {
 impl Model for Copies {
     ghost use Rattle.std.specs.Prelude.{List};
     ghost use Rattle.lsm_below.specs.Entries.{Entry};
-    ghost use Rattle.lsm_iter.specs.Shared.{joined, AreFull};
+    ghost use Rattle.lsm_iter.specs.Joined.{joined, AreFull};
 
     ghost Value = { List Entry };
 

@@ -1,14 +1,13 @@
 // A cursor: what is left of a source, one entry of each key, from both ends.
-ghost use Rattle.std.specs.Prelude.{◌≡◌, ◌≤◌, true, flat_map, Some, option_copied, option_to_list, filter, IfOk, OnErr};
+ghost use Rattle.std.specs.Prelude.{◌≡◌, ◌≤◌, true, Some, option_copied, option_to_list, filter, IfOk, OnErr};
 ghost use Rattle.std.specs.List.{All};
 ghost use Rattle.lsm_below.specs.Entries.{Entry, HasBytes, entry_cmp, is_value};
 ghost use Rattle.lsm_below.specs.Sorted.{Rises};
 ghost use Rattle.lsm_below.specs.Sums.{capped};
 ghost use Rattle.lsm_iter.specs.Shown.{by_key};
 ghost use Rattle.lsm_iter.specs.Reads.{at};
-ghost use Rattle.lsm_iter.specs.Left.{tops, copied, end_item, Takes, copies_of, TakesValue};
+ghost use Rattle.lsm_iter.specs.Left.{tops, end_item, Takes, TakesValue};
 ghost use Rattle.lsm_iter.specs.Cursors.{left_in, owned_in};
-ghost use Rattle.lsm_iter.specs.Shared.{IsSound};
 
 use crate::End;
 use crate::copies::Copies;

@@ -10,7 +10,7 @@ ghost use Rattle.lsm_iter.specs.declared.tree_iter.End.TheVariants.{Front};
 
 use crate::End;
 use crate::parts::{OfTable, Part, Parts};
-use crate::trim::{outermost, past_back, past_front, places_left};
+use crate::trim::{end_entry, past_back, past_front, places_left};
 use lsm_below::{InternalValue, SeqNo, UserKey};
 use lsm_tables::Table;
 use std::alloc::AllocError;
@@ -63,7 +63,7 @@ impl<'a> Cut<'a> {
     pub(crate) fn peek(&self, end: End) -> Option<&'a InternalValue>
         ensures is { option_copied result ≡ end_item end self.now }
     {
-        outermost(end, self.rest)
+        end_entry(end, self.rest)
     }
 
     /// What is left rises by its keys.

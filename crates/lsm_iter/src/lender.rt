@@ -1,13 +1,10 @@
 // What is left of a source that is lent, from both ends.
-ghost use Rattle.std.specs.Prelude.{◌≡◌, ◌≤◌, flat_map, filter, option_copied, option_to_list, IfOk};
-ghost use Rattle.std.specs.List.{All};
-ghost use Rattle.lsm_below.specs.Entries.{HasBytes, is_value};
+ghost use Rattle.std.specs.Prelude.{◌≡◌, ◌≤◌, filter, option_copied, option_to_list};
+ghost use Rattle.lsm_below.specs.Entries.{is_value};
 ghost use Rattle.lsm_below.specs.Sorted.{Rises};
 ghost use Rattle.lsm_iter.specs.Shown.{by_key};
-ghost use Rattle.lsm_iter.specs.Reads.{at};
-ghost use Rattle.lsm_iter.specs.Left.{tops, copied, end_item, Takes, TakesValue};
+ghost use Rattle.lsm_iter.specs.Left.{end_item, Takes, TakesValue};
 ghost use Rattle.lsm_iter.specs.Lenders.{left_in};
-ghost use Rattle.lsm_iter.specs.Shared.{IsSound};
 ghost use Rattle.lsm_iter.specs.declared.tree_iter.End.TheVariants.{Front};
 
 use crate::End;

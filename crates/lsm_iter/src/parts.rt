@@ -1,5 +1,5 @@
 // What is left of a run of tables: a part of each table, lent or shared, one behind the other.
-ghost use Rattle.std.specs.Prelude.{◌≡◌, ℕ, ◌≢◌, [], map, flat_map, option_copied, Some, None, MatchOption, get_or, IfOk, OnOk, ◌++◌};
+ghost use Rattle.std.specs.Prelude.{◌≡◌, ℕ, [], map, flat_map, Some, None, MatchOption, IfOk, OnOk, ◌++◌};
 ghost use Rattle.std.specs.List.{All};
 ghost use Rattle.lsm_below.specs.Entries.{HasBytes};
 ghost use Rattle.lsm_below.specs.Runs.{IsRun};
@@ -8,7 +8,8 @@ ghost use Rattle.lsm_tables.specs.Tables.{range_of};
 ghost use Rattle.lsm_iter.specs.Reads.{at};
 ghost use Rattle.lsm_iter.specs.Shown.{by_key};
 ghost use Rattle.lsm_iter.specs.Left.{end_item, copied, Takes};
-ghost use Rattle.lsm_iter.specs.Shared.{joined, AreFull, IsSound};
+ghost use Rattle.lsm_iter.specs.Joined.{joined, AreFull};
+ghost use Rattle.lsm_iter.specs.Sound.{IsSound};
 ghost use Rattle.lsm_iter.specs.declared.tree_iter.End.TheVariants.{Front, Back};
 
 use crate::End;
@@ -83,7 +84,7 @@ impl<P: Part> Model for Parts<P> {
     ghost use Rattle.lsm_below.specs.Entries.{Entry};
     ghost use Rattle.lsm_below.specs.Sorted.{Rises};
     ghost use Rattle.lsm_iter.specs.Shown.{by_key};
-    ghost use Rattle.lsm_iter.specs.Shared.{joined, AreFull};
+    ghost use Rattle.lsm_iter.specs.Joined.{joined, AreFull};
 
     ghost Value = { List Entry };
 

@@ -6,7 +6,7 @@ ghost use Rattle.lsm_versions.specs.Levels.{all_of};
 ghost use Rattle.lsm_iter.specs.Reads.{at, index_of, tables_of};
 ghost use Rattle.lsm_iter.specs.Left.{left_of, held_in};
 ghost use Rattle.lsm_iter.specs.Puts.{PutsCursors, owned_of};
-ghost use Rattle.lsm_iter.specs.Shared.{IsSound};
+ghost use Rattle.lsm_iter.specs.Sound.{IsSound};
 
 use crate::{End, Memtable, Version};
 use lsm_below::{InternalValue, Run, SeqNo, UserKey};
@@ -25,7 +25,7 @@ pub(crate) trait Reader<'a>: Drop {
     ghost use Rattle.lsm_iter.specs.Reads.{at};
     ghost use Rattle.lsm_iter.specs.Left.{SeenCursor, tops, copied, end_item, Takes};
     ghost use Rattle.lsm_iter.specs.Shown.{by_key};
-    ghost use Rattle.lsm_iter.specs.Shared.{IsSound};
+    ghost use Rattle.lsm_iter.specs.Sound.{IsSound};
 
     /// What is left, and how many entries it owns.
     ghost seen: { Self → SeenCursor };

@@ -211,7 +211,7 @@ impl Model for Trim {
 
 /// The entry at this end.
 #[inline(always)]
-pub(crate) fn outermost(end: End, entries: &[InternalValue]) -> Option<&InternalValue>
+pub(crate) fn end_entry(end: End, entries: &[InternalValue]) -> Option<&InternalValue>
     ensures { option_copied result ≡ end_item end entries.now }
 {
     match end {
@@ -250,7 +250,7 @@ impl Trim {
     pub(crate) fn peek(&self, end: End) -> Option<&InternalValue>
         ensures is { option_copied result ≡ end_item end self.now }
     {
-        outermost(end, &self.table.entries()[self.low..self.high])
+        end_entry(end, &self.table.entries()[self.low..self.high])
     }
 
     /// What is left rises by its keys.

@@ -1,5 +1,5 @@
 // The file that keeps a tree from being opened.
-ghost use Rattle.std.specs.Prelude.{◌≡◌, IfOk, IfSome, IfNone};
+ghost use Rattle.std.specs.Prelude.{IfOk, IfSome, IfNone};
 ghost use Rattle.lsm_store.specs.World.{Same};
 ghost use Rattle.lsm_manifest.specs.Recovery.{CountsStore};
 ghost use Rattle.lsm_manifest.specs.Told.{Told, TellsOpen};

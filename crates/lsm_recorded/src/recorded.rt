@@ -1,8 +1,8 @@
 // A tree with the journal of its calls.
-ghost use Rattle.std.specs.Prelude.{◌≡◌, ◌+◌, ◌<◌, ◌≤◌, [], None, Ok, IfOk, IfErr, IfSome, OnErr, IsErrOf, ◌⊎◌, map};
-ghost use Rattle.lsm_below.specs.Entries.{plain, above};
+ghost use Rattle.std.specs.Prelude.{◌≡◌, ◌<◌, ◌≤◌, [], None, Ok, IfOk, IfErr, IfSome, OnErr, IsErrOf, ◌⊎◌};
+ghost use Rattle.lsm_below.specs.Entries.{plain};
 ghost use Rattle.lsm_model.specs.Beginnings.{shown_by};
-ghost use Rattle.lsm_model.specs.Journal.{replay, Agrees};
+ghost use Rattle.lsm_model.specs.Journal.{Agrees};
 ghost use Rattle.lsm_model.specs.Ops.{op_entry};
 ghost use Rattle.lsm_model.specs.declared.op.Op.TheVariants.{Set, Del, Weak};
 ghost use Rattle.lsm_versions.specs.Levels.{placed_of};

@@ -21,7 +21,7 @@ AreThose memtables ids list = (f : List Entry → List Entry) → f [] ≡ [] �
 abbrev pub copies_at : List SeenMemtable → Index → Bound Bytes → Bound Bytes → ℕ → SuperVersion → List Entry
 copies_at memtables index low high s sv = copies low high (option_to_list (index_of index) ++ map (λ id. at s (entries_of memtables id)) (sv.active ∷ sv.sealed))
 
--- an iterator reads a super version, under an index: that counts of what it reads, and is copied of it
+-- an iterator reads a super version, under an index: what counts of what it reads, and what is copied of it
 pub record IsReading (memtables : List SeenMemtable) (index : Index) (sv : SuperVersion) (st : SeenState) : Type 0 where
   pub counts : (s : ℕ) → counted_at s st ≡ counting memtables index s sv
   pub copied : (low high : Bound Bytes) (s : ℕ) → copied_within low high s st ≡ length (copies_at memtables index low high s sv)

@@ -1,7 +1,6 @@
 // The calls of a tree with its journal, behind the lock.
 ghost use Rattle.std.specs.Prelude.{◌≡◌, ◌⊎◌, IfOk, IfErr, is_some};
 ghost use Rattle.lsm_below.specs.Entries.{plain};
-ghost use Rattle.lsm_model.specs.Views.{held};
 ghost use Rattle.lsm_model.specs.Beginnings.{shown_by};
 ghost use Rattle.lsm_model.specs.Journal.{Agrees};
 ghost use Rattle.lsm_model.specs.Ops.{op_entry};

@@ -1,5 +1,5 @@
 // How a flush is installed.
-ghost use Rattle.std.specs.Prelude.{ℕ, [], ◌≡◌, ◌⊎◌, ◌↔◌, ◌++◌, ◌-◌, ◌^◌, None, true, false, take, reverse, length, map, IsTrue, IsSome, IfOk, IfErr, IsErrOf};
+ghost use Rattle.std.specs.Prelude.{ℕ, [], ◌≡◌, ◌⊎◌, ◌↔◌, ◌++◌, ◌-◌, None, true, false, take, reverse, length, map, IsTrue, IsSome, IfOk, IfErr, IsErrOf};
 ghost use Rattle.std.specs.List.Sorted.{IsPermutation};
 ghost use Rattle.lsm_model.specs.Steps.{among};
 ghost use Rattle.lsm_versions.specs.Levels.{range, all_of, HasOwnIds};

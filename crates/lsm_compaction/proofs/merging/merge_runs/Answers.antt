@@ -13,8 +13,8 @@ compact-requires c =
     let sources = c.in_ok-sources.sources.items in
     All-from_recursion _ sources (in_order (λ s. s) sources (sources_in c.args.runs.now) (each_itself sources ∙ c.in_ok-sources.ensures) (runs_in_order (sources_in c.args.runs.now) (runs_writable c.args.runs.now c.see_runs.ensures)))
 
-pub write_files-requires-clause-writable : goal.write_files-requires-clause-writable
-write_files-requires-clause-writable c =
+pub spell_files-requires-clause-writable : goal.spell_files-requires-clause-writable
+spell_files-requires-clause-writable c =
     let sources = c.in_ok-sources.sources.items in
     let lists = sources_in c.args.runs.now in
     let stream = c.in_ok-stream.ensures in
@@ -28,6 +28,6 @@ returns-clause-files c =
     let out = (left_of c.in_ok-stream.stream).entries in
     let stream = c.in_ok-stream.ensures in
     let kept = kept_of (λ s. s) sources lists c.args.settings.watermark c.evicts.result out (each_itself sources ∙ c.in_ok-sources.ensures) stream.merged stream.ordered stream.in_any_order in
-    IfOk-weaker c.write_files.result _ (λ files. AreFilesOf c.args.settings c.args.runs.now files.items)
+    IfOk-weaker c.spell_files.result _ (λ files. AreFilesOf c.args.settings c.args.runs.now files.items)
     (λ files images. record { entries = out; kept = subst (λ (b : Bool). IsKeptOf lists c.args.settings.watermark b out) c.evicts.ensures kept; writable = c.kept_is_writable.ensures c.args.settings.watermark c.evicts.result lists out (runs_writable c.args.runs.now c.see_runs.ensures) kept.merged; images = images })
-    c.write_files.ensures.ok
+    c.spell_files.ensures.ok

@@ -1,6 +1,6 @@
 use Rattle.std.proofs.Common.{◌≡◌, ◌+◌, ◌-◌, ◌<◌, length, ◌∙◌, refl, sym, ap, arith}
 use Rattle.lsm_iter.specs.Left.{end_item}
-use Rattle.lsm_iter.specs.Shared.{joined}
+use Rattle.lsm_iter.specs.Joined.{joined}
 use Rattle.lsm_iter.proofs.Joined.{back_peeked}
 use Rattle.lsm_iter.proofs.copies.peek_blocks.Goals as goal
 

@@ -1,6 +1,6 @@
 use Rattle.std.proofs.Common.{◌-◌, take, set, ◌∙◌, sym, ap, subst}
 use Rattle.lsm_iter.specs.Left.{Takes}
-use Rattle.lsm_iter.specs.Shared.{joined}
+use Rattle.lsm_iter.specs.Joined.{joined}
 use Rattle.lsm_iter.specs.declared.tree_iter.End.TheVariants.{Back}
 use Rattle.lsm_iter.proofs.Joined.{last_place, back_peeked, back_skipped, back_gone, none_counted}
 use Rattle.lsm_iter.proofs.copies.take_back.Goals as goal

@@ -5,7 +5,7 @@ use Rattle.lsm_below.specs.Optimizes.{tables_of}
 use Rattle.lsm_versions.specs.Levels.{all_of}
 use Rattle.lsm_iter.specs.Reads.{at}
 use Rattle.lsm_iter.specs.Puts.{PutsCursors}
-use Rattle.lsm_iter.specs.Shared.{IsSound}
+use Rattle.lsm_iter.specs.Sound.{IsSound}
 use Rattle.lsm_iter.proofs.Puts.{level_put, level_sound}
 use Rattle.lsm_iter.proofs.sources.push_levels.Goals as goal
 

@@ -3,7 +3,7 @@ use Rattle.std.specs.List.{All}
 use Rattle.lsm_versions.specs.Levels.{all_of}
 use Rattle.lsm_iter.specs.Reads.{at}
 use Rattle.lsm_iter.specs.Puts.{PutsCursors}
-use Rattle.lsm_iter.specs.Shared.{IsSound}
+use Rattle.lsm_iter.specs.Sound.{IsSound}
 use Rattle.lsm_iter.proofs.Puts.{shown_parts, version_sound}
 use Rattle.lsm_iter.proofs.sources.push_version.Goals as goal
 

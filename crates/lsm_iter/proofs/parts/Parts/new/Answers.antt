@@ -4,7 +4,7 @@ use Rattle.std.proofs.lemmas.List.Elements.{All-append}
 use Rattle.lsm_below.specs.Entries.{HasBytes}
 use Rattle.lsm_below.specs.Sorted.{Rises}
 use Rattle.lsm_iter.specs.Shown.{by_key}
-use Rattle.lsm_iter.specs.Shared.{joined}
+use Rattle.lsm_iter.specs.Joined.{joined}
 use Rattle.lsm_iter.proofs.Disjoint.{left_kept, left_whole, run_rises}
 use Rattle.lsm_iter.proofs.parts.Parts.new.Goals as goal
 

@@ -1,7 +1,7 @@
 use Rattle.std.proofs.Common.{◌≡◌, take, map, flat_map}
 use Rattle.std.specs.List.{All}
 use Rattle.lsm_below.specs.Entries.{HasBytes}
-use Rattle.lsm_iter.specs.Shared.{joined, AreFull}
+use Rattle.lsm_iter.specs.Joined.{joined, AreFull}
 use Rattle.lsm_iter.proofs.Disjoint.{left_in}
 use Rattle.lsm_iter.proofs.parts.Parts.new.Given as goal
 

@@ -3,7 +3,7 @@ use Rattle.std.specs.List.{AllByRecursion, range_with_len}
 use Rattle.lsm_versions.specs.declared.config.TheConstants.{LIMIT}
 use Rattle.lsm_commit.specs.Contents.{AreWritten}
 use Rattle.lsm_commit.proofs.NextFiles.{KeepsFiles}
-use Rattle.lsm_commit.proofs.contents.write_files.Given as goal
+use Rattle.lsm_commit.proofs.contents.write_named.Given as goal
 
 abbrev pub invariant-loop-content : goal.invariant-loop-content
 invariant-loop-content g l =

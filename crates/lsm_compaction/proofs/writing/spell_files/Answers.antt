@@ -4,7 +4,7 @@ use Rattle.lsm_below.specs.Streams.{Gives}
 use Rattle.lsm_tables.specs.Cutting.{AreImagesOf}
 use Rattle.lsm_compaction.specs.OpenTables.{IsUnderway, IsWriting}
 use Rattle.lsm_compaction.proofs.Underway.{ends_with, first_writing, next_fits}
-use Rattle.lsm_compaction.proofs.writing.write_files.Goals as goal
+use Rattle.lsm_compaction.proofs.writing.spell_files.Goals as goal
 
 pub returns-in-None-clause-ok : goal.returns-in-None-clause-ok
 returns-in-None-clause-ok g c =

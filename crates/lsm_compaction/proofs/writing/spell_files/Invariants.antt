@@ -1,6 +1,6 @@
 use Rattle.std.proofs.Common.{length}
 use Rattle.lsm_compaction.specs.OpenTables.{IsWriting}
-use Rattle.lsm_compaction.proofs.writing.write_files.Given as goal
+use Rattle.lsm_compaction.proofs.writing.spell_files.Given as goal
 
 -- files, the table that is open, and the entries that are still to come
 abbrev pub invariant-entries : goal.invariant-entries

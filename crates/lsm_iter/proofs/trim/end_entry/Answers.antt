@@ -1,7 +1,7 @@
 use Rattle.std.proofs.Common.{sym, ◌∙◌, ap}
 use Rattle.lsm_iter.specs.Left.{end_item}
 use Rattle.lsm_iter.proofs.Tops.{last_is}
-use Rattle.lsm_iter.proofs.trim.outermost.Goals as goal
+use Rattle.lsm_iter.proofs.trim.end_entry.Goals as goal
 
 pub returns-in-Some-split_last : goal.returns-in-Some-split_last
 returns-in-Some-split_last c =

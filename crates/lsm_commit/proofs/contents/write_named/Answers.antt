@@ -6,7 +6,7 @@ use Rattle.lsm_commit.specs.Contents.{AreWritten}
 use Rattle.lsm_commit.proofs.NextFiles.{files_none, leaves_more, files_more}
 use Rattle.lsm_commit.proofs.Tabled.{each_push}
 use Rattle.lsm_commit.proofs.WrittenFiles.{range_below, range_more, written_stay, written_more}
-use Rattle.lsm_commit.proofs.contents.write_files.Goals as goal
+use Rattle.lsm_commit.proofs.contents.write_named.Goals as goal
 
 pub loop-content-init : goal.loop-content-init
 loop-content-init g c =
