@@ -58,7 +58,7 @@ pub in_back : {A : Type 0} (x : A) (xs ys : List A) → IsIn x ys → IsIn x (xs
 in_back x [] ys i = i
 in_back x (z ∷ xs) ys i = inr (in_back x xs ys i)
 
--- behind others, the first ones and one more
+-- after others, the first ones and one more
 pub more_behind : {A : Type 0} (before xs : List A) (at : ℕ) → (before ++ take at xs) ++ slice_range xs at (at + 1) ≡ before ++ take (at + 1) xs
 more_behind before xs at =
     let one : at + 1 - at ≡ 1 = omega arith in

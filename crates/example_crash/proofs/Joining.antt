@@ -1,4 +1,4 @@
--- One step more, behind those so far.
+-- One step more, after those so far.
 use Rattle.std.proofs.Common.{◌≡◌, ℕ, ◌+◌, ◌<◌, ◌≤◌, ◌^◌, arith, List, [], ◌∷◌, ◌++◌, None, map, length, refl, sym, ap, ◌∙◌, subst, append-nil, append_assoc}
 use Rattle.lsm_below.specs.Each.{each_append, each_left, each_filter}
 use Rattle.lsm_below.specs.Entries.{Entry, above}

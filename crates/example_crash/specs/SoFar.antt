@@ -41,13 +41,13 @@ AnswersSo opened start steps told = IsPlainUse steps → InOrder opened (journal
 -- A tree was opened on a store that stands for the map, with these entries, where its counter stood here, and took these steps one by one, which
 -- had these outcomes.
 pub record SoFar {F : Type 0} (world : F → World) (m : Map) (was : F) (opened : List Entry) (counter : ℕ) (steps : List Step) (told : List Told) (is : F) (now : Core) : Type 0 where
-  -- these were found, and show the map; the counter stood above them; and the store behind opening
+  -- these were found, and show the map; the counter stood above them; and the store after opening
   pub found : (levels : Levels) → Finds (world was).gives levels → opened ≡ held (placed_of levels)
   pub starts : (k : Bytes) → get m k ≡ view_at k (above opened) (opened ∷ [])
   pub above_found : above opened ≤ counter
   pub first : F
   pub opening : (tables : Levels) → Finds (world was).gives tables → OpeningLeaves (world was) (world first) tables
-  -- what each step answered and noted, the store behind it, and where the counter stood then
+  -- what each step answered and noted, the store after it, and where the counter stood then
   pub outcomes : List (out.Told Reply)
   pub stores : List F
   pub counters : List ℕ

@@ -49,7 +49,7 @@ pub fn crash_between(
 ) -> Result<Option<TwoLives>, Error>
     requires new { Begins (λ _. None) (world_of store) }
     ensures survives { AllByRecursion IsUsual first.now → AllByRecursion IsUsual second.now → MatchResult result (λ r. IfSome r (λ l. Survives (take (length l.before.outcomes.items) first.now) l.before.outcomes.items (take (length l.after.outcomes.items) second.now) l.after.outcomes.items)) IsWant }
-    // None just where a crash can't leave what is picked of the store behind the first life.
+    // None just where a crash can't leave what is picked of the store after the first life.
     ensures crashed { IfOk result (λ r. MatchOption r ((told : List Told) × EndsWith (λ s. ¬ CanBeLeft picks.now s) store first.now told) (λ l. EndsWith (CanBeLeft picks.now) store first.now l.before.outcomes.items)) }
 {
     crashes_settle(&store);

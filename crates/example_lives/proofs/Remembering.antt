@@ -84,7 +84,7 @@ leads_on any openings was is next image may begins opens life (Refused e) usual 
 
 -- ---- from life to life
 
--- what was kept of the last life, and what comes behind some lives
+-- what was kept of the last life, and what comes after some lives
 pub record SoFar (w : World) (lives : List Life) (lived : List Lived) : Type 0 where
   pub start : Map
   pub steps : List LogStep

@@ -17,7 +17,7 @@ use lsm_parts::Config;
 use lsm_store::{MemStore, Pick};
 use std::alloc::{AllocError, Global};
 
-/// A life that is to be lived: calls on a logged tree, and what of these names the crash behind them is to leave.
+/// A life that is to be lived: calls on a logged tree, and what of these names the crash after them is to leave.
 #[derive(Drop)]
 pub struct Life {
     pub steps: Vec<LogStep>,
@@ -29,7 +29,7 @@ pub struct Life {
 pub enum Lived {
     /// The tree was opened, and took steps.
     Took(TakenLogged),
-    /// Its opening was refused, so the crash came behind that.
+    /// Its opening was refused, so the crash came after that.
     Refused(Error),
 }
 
@@ -60,7 +60,7 @@ fn live_and_crash(
     }
 }
 
-/// Lives a logged tree again and again, from a new store on: each life opens what the crash behind the one before left,
+/// Lives a logged tree again and again, from a new store on: each life opens what the crash after the one before left,
 /// takes its steps, and ends by a crash. It answers how each one went, or None where a crash can't leave what is picked.
 /// Faults may be planned in the store.
 ///

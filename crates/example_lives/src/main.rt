@@ -61,7 +61,7 @@ fn third(alloc: Global) -> Result<Vec<LogStep>, AllocError> {
     Ok(vec![in alloc; look(b"apple"), look(b"plum")]?)
 }
 
-/// A life of these steps, behind which a crash leaves what it mostly does.
+/// A life of these steps, after which a crash leaves what it mostly does.
 fn life(alloc: Global, steps: Vec<LogStep>) -> Life {
     Life {
         steps,
@@ -110,7 +110,7 @@ fn live_thrice(alloc: Global, store: MemStore) -> Result<Option<Vec<Lived>>, All
     live_again(alloc, store, &lives)
 }
 
-/// One life, behind which a crash is to leave nothing of a batch that was acknowledged.
+/// One life, after which a crash is to leave nothing of a batch that was acknowledged.
 fn lose(alloc: Global) -> Result<Option<Vec<Lived>>, AllocError> {
     let lost = Life {
         steps: first(alloc)?,

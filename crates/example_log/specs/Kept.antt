@@ -1,4 +1,4 @@
--- What an acknowledged batch is behind a crash, as a user asks it: derived from the contracts of public calls.
+-- What an acknowledged batch is after a crash, as a user asks it: derived from the contracts of public calls.
 use Rattle.std.specs.Prelude.{◌≡◌, ℕ, ◌<◌, List, Option, map}
 use Rattle.std.specs.FinMap.{empty, get}
 use Rattle.lsm_below.specs.Keys.{Bytes}

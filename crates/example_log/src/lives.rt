@@ -33,7 +33,7 @@ fn opened(alloc: Global, store: MemStore) -> Result<Logged, Error>
 /// Writes a batch to a new logged tree, crashes its store so that of these names this is left, and opens a logged tree on what
 /// is left. None where that can't be left. Faults may be planned in the store.
 ///
-/// Where the batch is acknowledged, all of it is there behind the crash, whatever that leaves: a get of its keys answers what it
+/// Where the batch is acknowledged, all of it is there after the crash, whatever that leaves: a get of its keys answers what it
 /// wrote, and a get of another one nothing.
 pub fn write_and_crash(
     alloc: Global,

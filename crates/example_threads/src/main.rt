@@ -9,7 +9,7 @@ use std::thread::{self, Threads};
 
 const WRITERS: usize = 4;
 
-/// How many keys each of them writes. It flushes behind each tenth one.
+/// How many keys each of them writes. It flushes after each tenth one.
 const KEYS: usize = 100;
 
 /// Snapshots from the watermark on are kept for their readers. While any snapshot may be read, it is 0.
@@ -21,7 +21,7 @@ fn name_key(alloc: Global, writer: usize, key: usize) -> Result<UserKey, AllocEr
     UserKey::copy_from_slice(alloc, name.as_bytes())
 }
 
-/// Writes a key with its own bytes as its value: whether that is read back at the snapshot behind the write.
+/// Writes a key with its own bytes as its value: whether that is read back at the snapshot after the write.
 fn write_and_read(rt: &impl Wait, alloc: Global, tree: &Tree, key: UserKey) -> Result<bool, Error> {
     let op = Op::Set(key.clone()?);
     let number = tree.write(rt, vec![in alloc; (key.clone()?, op)]?)?;

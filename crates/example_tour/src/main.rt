@@ -56,7 +56,7 @@ fn merge<S: Store>(tree: &mut Logged<S>) -> Result<()> {
     Ok(())
 }
 
-/// The words of a command, behind the program's name.
+/// The words of a command, after the program's name.
 fn words_of(alloc: Global, words: &[&str]) -> Result<Vec<String>, AllocError> {
     let mut all = Vec::with_capacity(alloc, words.len())?;
     for word in words {

@@ -40,7 +40,7 @@ module _ {X : Type 0} {R : X → X → Ordering} (o : IsTotalOrder R) where
   index_rises e a b Greater Equal less ra sb = let no : Equal ≡ Less = less_not e b Equal (o.trans e a b (flipped a e Greater ra) less) sb in absurd (cc no)
   index_rises e a b Greater Greater less ra sb = omega arith
 
--- a rising list behind another, all of which comes before it
+-- a rising list after another, all of which comes before it
 pub rises_append : {X : Type 0} (R : X → X → Ordering) (xs ys : List X) → Rises R xs → Rises R ys → AllByRecursion (λ x. AllByRecursion (λ y. R x y ≡ Less) ys) xs → Rises R (xs ++ ys)
 rises_append R [] ys h k apart = k
 rises_append R (x ∷ xs) ys h k apart = (All-append (λ y. R x y ≡ Less) xs ys h.0 (All-from_recursion (λ y. R x y ≡ Less) ys apart.0), rises_append R xs ys h.1 k apart.1)

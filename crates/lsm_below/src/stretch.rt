@@ -114,7 +114,7 @@ impl<'a> Stretch<'a> {
         }
     }
 
-    /// The first entry, and those behind it.
+    /// The first entry, and those after it.
     pub fn split_first(&self) -> Option<(Headed<'a>, Stretch<'a>)>
         ensures { MatchOption result (self.now ≡ []) (λ p. self.now ≡ p.0 ∷ p.1) }
     {

@@ -3,8 +3,8 @@
 //! `lsm_bench N` runs each workload on N keys and prints a line for it, `workload N ops seconds check`. The check
 //! depends on every answer, so that no call can be left out unseen. Without arguments N is 1,000 and no line has
 //! seconds, so that the lines are the same on every machine. `lsm_bench N FOLDER` adds workloads on trees in that
-//! folder, which is to be absent or empty, and takes away at the end what it made. Workloads that are named behind the
-//! folder, or behind `-` for none, are run alone, so that a profile sees one of them. docs/PERFORMANCE.md says what
+//! folder, which is to be absent or empty, and takes away at the end what it made. Workloads that are named after the
+//! folder, or after `-` for none, are run alone, so that a profile sees one of them. docs/PERFORMANCE.md says what
 //! each workload does.
 //!
 //! `lsm_bench --svg bars FILE` prints a picture of figures that stand in a file: lines as above, of which the middle of each

@@ -105,7 +105,7 @@ fn compact_counted<S: Store>(
     Ok(bytes_from(tree, first))
 }
 
-/// Puts keys in 16 parts; flushes each, and compacts behind it as `Leveled` chooses. The check is the write amplification in
+/// Puts keys in 16 parts; flushes each, and compacts after it as `Leveled` chooses. The check is the write amplification in
 /// per cent: how many bytes of tables were written for 100 bytes of keys and values.
 fn mix<S: Store>(alloc: Global, tree: &mut TreeState<S>, ids: &[u64]) -> Result<Tally, Error> {
     let leveled = Leveled::new(alloc)?;

@@ -38,9 +38,9 @@ pub enum Logging {
 /// When tables are merged while keys are put.
 #[derive(Clone, Copy)]
 pub enum Ingest {
-    /// Once, behind four flushes.
+    /// Once, after four flushes.
     Once,
-    /// As `Leveled` chooses, behind each of 16 flushes.
+    /// As `Leveled` chooses, after each of 16 flushes.
     Leveled,
 }
 
@@ -92,7 +92,7 @@ pub enum Listing {
     Groups,
     /// All pairs, lent, once.
     Pairs,
-    /// The same from behind.
+    /// The same from the end.
     PairsBack,
     /// As `Ranges`, lent.
     PairRanges,
@@ -104,7 +104,7 @@ pub enum Listing {
 
 /// The name of each workload, and what it does, in the order in which they run.
 ///
-/// Those that read one tree stand behind the one that makes it, so that it is done once. The first is the fill that
+/// Those that read one tree stand after the one that makes it, so that it is done once. The first is the fill that
 /// is weighed, before other trees have left memory behind.
 pub const WORKLOADS: [(&str, Job); 40] = [
     ("put_rand", Job::Fill(Kind::Owned, Filling::Random)),
@@ -206,7 +206,7 @@ pub const WORKLOADS: [(&str, Job); 40] = [
     ),
 ];
 
-/// The same of trees that stand in a folder. They run behind those, where a folder was given.
+/// The same of trees that stand in a folder. They run after those, where a folder was given.
 pub const FOLDER_WORKLOADS: [(&str, Job); 6] = [
     ("flush_disk", Job::Flush),
     ("reopen_disk", Job::Reopen(None)),

@@ -37,7 +37,7 @@ pub const CHECKS: Plan<'static> = Plan {
     rows: None,
 };
 
-/// Stands for no folder, where workloads are named behind it.
+/// Stands for no folder, where workloads are named after it.
 const NO_FOLDER: &str = "-";
 
 /// A picture of figures that were printed before.

@@ -74,7 +74,7 @@ fn draw_name(out: &mut String, top: u64, timed: Timed<'_>) -> Result<(), AllocEr
 }
 
 /// A picture of bars: for each workload those of all programs that were timed on it, the longest of them equally long, with
-/// nanoseconds an operation behind each. The cost is the square of the number of lines, of which a page has some forty.
+/// nanoseconds an operation after each. The cost is the square of the number of lines, of which a page has some forty.
 pub fn draw_bars(alloc: Global, figures: &Figures<'_>) -> Result<String, AllocError> {
     let mut body = String::new(alloc);
     let mut top = HEAD;

@@ -61,7 +61,7 @@ fn read(
     }
 }
 
-/// Writes a key, and reads another one behind that write.
+/// Writes a key, and reads another one after that write.
 fn write_and_read(
     rt: &impl Wait,
     alloc: Global,

@@ -12,7 +12,7 @@ fn written(entry: &InternalValue) -> Option<&UserValue> {
     }
 }
 
-/// What a key has behind an entry that is numbered below the snapshot.
+/// What a key has after an entry that is numbered below the snapshot.
 fn value_after<'a>(
     before: Option<&'a UserValue>,
     entry: &'a JournalEntry,
@@ -27,7 +27,7 @@ fn value_after<'a>(
     }
 }
 
-/// What a key has at a snapshot behind these entries.
+/// What a key has at a snapshot after these entries.
 fn value_at<'a>(
     entries: &'a [SharedEntry],
     key: &UserKey,

@@ -96,7 +96,7 @@ module _ (apart : AreApart) (no_table : (i : ℕ) → table_name i ≢ current_n
   left_either : (new : World) → LeavesOnly old new (IsOldOrNew next.id (file_of next) old) → Leaves old new (latest ∷ (next ∷ []))
   left_either new leaves = weakened old new (IsOldOrNew next.id (file_of next) old) (HoldsOneOf (latest ∷ (next ∷ []))) leaves held_either
 
-  -- ---- what is stored behind it
+  -- ---- what is stored after it
 
   module _ (new : World) where
     module _ (rest : KeepsRest next.id old new) (file : (c : Option (List ℕ)) → new.may (version_name next.id) c → c ≡ Some (file_of next)) where

@@ -33,7 +33,7 @@ no_fault Blamed old new same isnt = record { rises = omega (arith, same); cause 
 pub one_fault : (Blamed : Type 0) (old new : World) → new.failures ≡ min (old.failures + 1) (2 ^ 64 - 1) → HasCause Blamed old new
 one_fault Blamed old new more = record { rises = omega (arith, more); cause = λ blamed. omega (arith, more) }
 
--- a call behind another: what both are blamed for, one of them is
+-- a call after another: what both are blamed for, one of them is
 pub causes_then : (A B Blamed : Type 0) (old mid new : World) → HasCause A old mid → HasCause B mid new → (Blamed → A ⊎ B) → HasCause Blamed old new
 causes_then A B Blamed old mid new a b which =
     let p = a.rises in

@@ -57,7 +57,7 @@ passes_still w only = record {
   leaves = started w (KeepsForeign w) (λ image since n foreign. only image since n);
 }
 
--- a call behind another
+-- a call after another
 pub passes_then : (old mid new : World) → Passes old mid → Passes mid new → Passes old new
 passes_then old mid new a b = record {
   gives = λ n foreign. b.gives n foreign ∙ a.gives n foreign;

@@ -13,7 +13,7 @@ use Rattle.lsm_commit.specs.Foreign.{IsForeign, Passes}
 abbrev pub StoredIsReady : (S : Type 0) → (S → World) → Type 0
 StoredIsReady S world = (store : S) (versions : List SeenVersion) (written : List SeenTable) → IsStored (world store) versions written → IsReady (world store)
 
--- behind the opening of a ready store the version that is opened is stored
+-- after the opening of a ready store the version that is opened is stored
 abbrev pub OpeningStores : (S : Type 0) → (S → World) → Type 0
 OpeningStores S world = (old new : S) (o : Opened) → IsReady (world old) → Opens (world old) (world new) (Ok o) → IsStored (world new) (o.version ∷ []) []
 
@@ -21,6 +21,6 @@ OpeningStores S world = (old new : S) (o : Opened) → IsReady (world old) → O
 abbrev pub OpeningsPass : (S : Type 0) → (S → World) → Type 0
 OpeningsPass S world = (old new : S) (o : Opened) → Opens (world old) (world new) (Ok o) → LeavesStanding (world old) (world new) → Passes (world old) (world new)
 
--- behind an opening that is answered a crash leaves of a foreign name just what reads gave, where not any bytes of it could be left
+-- after an opening that is answered a crash leaves of a foreign name just what reads gave, where not any bytes of it could be left
 abbrev pub OpeningsSettle : (S : Type 0) → (S → World) → Type 0
 OpeningsSettle S world = (old new : S) (o : Opened) → Opens (world old) (world new) (Ok o) → (n : List ℕ) → IsForeign n → IsOnDisk (world old) (world new) n

@@ -35,7 +35,7 @@ pub fn stored_files_are_ready<S: Store>(_: &S)
     images_stand_once();
 }
 
-/// Behind the opening of a ready store the version that is opened is stored.
+/// After the opening of a ready store the version that is opened is stored.
 pub fn opening_stores<S: Store>(store: &S)
     ensures { S.tells → OpeningStores S S.world }
 {
@@ -52,7 +52,7 @@ pub fn openings_pass<S: Store>(_: &S)
     names_are_apart();
 }
 
-/// Behind an opening that is answered what was read of them is on the disk.
+/// After an opening that is answered what was read of them is on the disk.
 pub fn openings_settle<S: Store>(_: &S)
     ensures { OpeningsSettle S S.world }
 {

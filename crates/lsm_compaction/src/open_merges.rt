@@ -149,7 +149,7 @@ impl OpenMerges {
         requires free { (i : ℕ) → among ids.now.keys i ≡ true → hides self.old.underway i ≡ false }
 
         ensures number { IfOk result (λ n. n ≡ self.old.next) }
-        // The merge stands behind those that were opened before.
+        // The merge stands after those that were opened before.
         ensures ok { OnOk result (self.new ≡ opened ids.now.keys settings self.old) }
         ensures err { OnErr result (self.new ≡ self.old) }
         ensures out_of_numbers { IsErrOf result Error.OutOfNumbers → LIMIT ≤ self.old.next }

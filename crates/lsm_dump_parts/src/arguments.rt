@@ -55,9 +55,9 @@ pub enum BadArguments<'a> {
     SecondFolder(&'a str),
     /// There is no such option.
     NoOption(&'a str),
-    /// Nothing stands behind this option.
+    /// Nothing stands after this option.
     NoValue(&'static str),
-    /// What stands behind this option is no number.
+    /// What stands after this option is no number.
     NoNumber(&'static str, &'a str),
     /// What is shown is chosen twice.
     TwoViews(&'a str),
@@ -137,7 +137,7 @@ fn with_view<'a>(
     })
 }
 
-/// The draft with what stands behind an option.
+/// The draft with what stands after an option.
 fn with_value<'a>(
     draft: Draft<'a>,
     awaited: Awaited,

@@ -25,7 +25,7 @@ pub struct Bounds {
     pub limit: u64,
 }
 
-/// The key that a word gives: the bytes in hex behind `0x`, else the word itself. None where these are no hex.
+/// The key that a word gives: the bytes in hex after `0x`, else the word itself. None where these are no hex.
 fn key_of(alloc: Global, word: &str) -> Result<Option<UserKey>, AllocError> {
     match word.strip_prefix("0x") {
         Some(digits) => match hex::decode(alloc, digits) {

@@ -4,7 +4,7 @@
 //! |-|-|
 //! | `arguments` | what the program's arguments ask |
 //! | `folder` | a folder as a store that is only read |
-//! | `look` | what a store holds, each file looked at once, also behind the first one that is damaged |
+//! | `look` | what a store holds, each file looked at once, also after the first one that is damaged |
 //! | `flaws` | what is wrong with a file, and where |
 //! | `verdict` | whether a tree and its log would be opened |
 //! | `totals` | what is counted of all files |

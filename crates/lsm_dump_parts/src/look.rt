@@ -1,4 +1,4 @@
-// What a store holds of a tree and its log, each file looked at once, also behind the first one that is damaged.
+// What a store holds of a tree and its log, each file looked at once, also after the first one that is damaged.
 ghost use Rattle.std.specs.Prelude.{◌≤◌, length};
 ghost use Rattle.lsm_store.specs.World.{Same};
 
@@ -81,7 +81,7 @@ fn count_below(numbers: &[SeqNo], from: SeqNo) -> usize
     numbers.len()
 }
 
-/// All that is wrong, behind what is wrong with `current` and the file that it names.
+/// All that is wrong, after what is wrong with `current` and the file that it names.
 fn all_damage(
     alloc: Global,
     names: &[String],

@@ -84,7 +84,7 @@ fn look_text(alloc: Global, found: &Look, view: View, is_json: bool) -> Result<S
     Ok(text)
 }
 
-/// The text of a verdict, behind what is wrong.
+/// The text of a verdict, after what is wrong.
 fn check_text(
     alloc: Global,
     verdict: &Result<(), Error>,

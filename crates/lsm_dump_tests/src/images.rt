@@ -35,7 +35,7 @@ const HEAD: [&[u8]; 6] = [
 /// The place of the format's byte.
 const FORMAT_PLACE: usize = 23;
 
-/// Behind the layout: the log is read from 2 on.
+/// After the layout: the log is read from 2 on.
 const FROM_2: [u8; 25] = *b"\x08log_from\x08\0\0\0\0\0\0\0\x02\0\0\0\0\0\0\0";
 
 /// A file of a store.

@@ -163,7 +163,7 @@ module _ (end : End) (e f : Entry) where
 
 -- ---- the entries of all cursors, around one that loses its entry
 
--- what stands before the entry at an end, and behind it
+-- what stands before the entry at an end, and after it
 abbrev ahead : End → List Entry → List Entry
 ahead Front t = []
 ahead Back t = t

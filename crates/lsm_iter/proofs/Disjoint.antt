@@ -1,4 +1,4 @@
--- What is left of the tables of a run, one behind the other, rises.
+-- What is left of the tables of a run, one after the other, rises.
 use Rattle.std.proofs.Common.{◌≡◌, ℕ, ◌+◌, ◌<◌, ◌≤◌, true, ◌&&◌, List, [], ◌∷◌, ◌++◌, length, get_or, take, flat_map, sym, ap, ◌∙◌, append-nil}
 use Rattle.std.proofs.lemmas.Grind.{flat_map-append}
 use Rattle.std.proofs.lemmas.List.{take_all, take_more}
@@ -65,7 +65,7 @@ module _ (low high : Bound Bytes) (s : ℕ) where
   left_more ts i t lt is =
       ap (flat_map left_in) (take_more ts i t lt ∙ ap (λ u. take i ts ++ u ∷ []) (sym is)) ∙ flat_map-append left_in (take i ts) (t ∷ []) ∙ ap (λ l. flat_map left_in (take i ts) ++ l) (append-nil (left_in t))
 
-  -- of which what is left stands behind what is left of those before it
+  -- of which what is left stands after what is left of those before it
   pub left_kept : (ts : List SeenTable) (i : ℕ) (t : SeenTable) (old part new : List Entry) → i < length ts → t ≡ get_or ts i t → new ≡ old ++ part → part ≡ left_in t → old ≡ flat_map left_in (take i ts) → new ≡ flat_map left_in (take (i + 1) ts)
   left_kept ts i t old part new lt is pushed left before = pushed ∙ ap (λ l. old ++ l) left ∙ ap (λ l. l ++ left_in t) before ∙ sym (left_more ts i t lt is)
 

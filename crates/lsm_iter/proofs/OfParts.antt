@@ -1,4 +1,4 @@
--- What is left of parts, one behind the other, from both ends.
+-- What is left of parts, one after the other, from both ends.
 use Rattle.std.proofs.Common.{◌≡◌, ◌≢◌, ℕ, ◌+◌, ◌-◌, ◌<◌, false, eqb, Bor, IsSome, IfSome, ◌↔◌, MatchOption, Option, Some, None, List, [], ◌∷◌, ◌++◌, length, get_or, set, take, drop, map, refl, sym, ap, ◌∙◌, subst, arith}
 use Rattle.std.proofs.lemmas.List.{map-set, take-map, length-map}
 use Rattle.std.proofs.lemmas.Bool.{eqb-false}

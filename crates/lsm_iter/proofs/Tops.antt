@@ -140,7 +140,7 @@ rises_firsts (e ∷ es) h = rises_changes e es h
 pub rises_tops : (s : ℕ) (es : List Entry) → Rises entry_cmp es → Rises by_key (tops (at s es))
 rises_tops s es h = rises_firsts (filter (counts s) es) (rises_filter entry_cmp (counts s) es h)
 
--- an entry behind entries with other keys
+-- an entry after entries with other keys
 changes_push : (e x : Entry) (es : List Entry) → same_key e x ≡ false → AllByRecursion (λ f. same_key f x ≡ false) es → changes e (es ++ x ∷ []) ≡ changes e es ++ x ∷ []
 changes_push e x [] apart h = ap (λ b. cond b [] (x ∷ [])) apart
 changes_push e x (f ∷ es) apart h = elim (same_key e f) as (λ b. cond b (changes e (es ++ x ∷ [])) (f ∷ changes f (es ++ x ∷ [])) ≡ cond b (changes e es) (f ∷ changes f es) ++ x ∷ []) [
@@ -321,7 +321,7 @@ both_ends : (s : ℕ) (es : List Entry) → end_item Front (tops (at s es)) ≡ 
 both_ends s es front back Front = front
 both_ends s es front back Back = back
 
--- a part that is trimmed at the front, behind the first entry's key
+-- a part that is trimmed at the front, after the first entry's key
 pub trimmed_front : (s : ℕ) (es u part v : List Entry) → es ≡ u ++ part → tops (at s es) ≡ v ++ tops (at s part) → IsTrimmed s es → end_item Front (tops (at s part)) ≡ end_item Front part → IsTrimmed s part
 trimmed_front s es u part v is tops_is trimmed front =
     both_ends s part front (back_alike part (tops (at s part)) u v front (sym (ap last_item tops_is) ∙ trimmed Back ∙ ap last_item is))

@@ -193,7 +193,7 @@ takes_front es t e is = subst (λ l. Takes Front l (end_item Front l) t) (sym is
 pub takes_back : (es t : List Entry) (e : Entry) → es ≡ t ++ e ∷ [] → Takes Back es (end_item Back es) t
 takes_back es t e is = subst (λ o. Takes Back es o t) (sym (last_is es t e is)) is
 
--- past the first key, and what doesn't count behind it
+-- past the first key, and what doesn't count after it
 pub front_past : (s : ℕ) (es : List Entry) (g h : ℕ) → 0 < length es → IsTrimmed s es → 0 < g → ((e : Entry) (rest : List Entry) → es ≡ e ∷ rest → IsCut (same_key e) es g) → Trims Front s (drop g es) (drop h (drop g es))
     → Takes Front (tops (at s es)) (end_item Front (tops (at s es))) (tops (at s (drop (g + h) es))) × IsTrimmed s (drop (g + h) es)
 front_past s es g h some trimmed up cut trims =

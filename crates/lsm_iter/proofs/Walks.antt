@@ -86,7 +86,7 @@ dropped_more all rest front gone e is next = is ∙ ap (λ l. l ++ gone) next �
 
 -- ---- steps
 
--- without the first entry's key, and what doesn't count behind it
+-- without the first entry's key, and what doesn't count after it
 pub past_first : (s : ℕ) (es behind front rest : List Entry) (e : Entry) → es ≡ e ∷ behind → behind ≡ front ++ rest → IsTrimmed s es → tops (at s rest) ≡ firsts_after (Some e) (filter (counts s) behind) → end_item Front (tops (at s rest)) ≡ end_item Front rest
     → Takes Front (tops (at s es)) (end_item Front (tops (at s es))) (tops (at s rest)) × IsTrimmed s rest
 past_first s es behind front rest e is passed trimmed same ends =

@@ -1,4 +1,4 @@
-// What is left of a run of tables: a part of each table, lent or shared, one behind the other.
+// What is left of a run of tables: a part of each table, lent or shared, one after the other.
 ghost use Rattle.std.specs.Prelude.{◌≡◌, ℕ, [], map, flat_map, Some, None, MatchOption, IfOk, OnOk, ◌++◌};
 ghost use Rattle.std.specs.List.{All};
 ghost use Rattle.lsm_below.specs.Entries.{HasBytes};
@@ -125,7 +125,7 @@ fn skip_back<P: Part>(parts: &mut VecDeque<P>)
     }
 }
 
-/// Adds a part behind the others, if it has an entry. Refused only for want of memory.
+/// Adds a part after the others, if it has an entry. Refused only for want of memory.
 fn push_part<P: Part>(parts: &mut VecDeque<P>, part: P) -> Result<(), AllocError>
     requires { AreFull (map P.left parts.old.items) }
     ensures joined { OnOk result (joined (map P.left parts.new.items) ≡ joined (map P.left parts.old.items) ++ P.left part) }

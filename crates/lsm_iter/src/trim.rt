@@ -138,7 +138,7 @@ fn left_len(entries: &[InternalValue], below: SeqNo) -> usize
     newest_place(&entries[..len], below) + 1
 }
 
-/// The place behind the first entry's key, and what doesn't count behind it.
+/// The place after the first entry's key, and what doesn't count after it.
 #[inline(always)]
 pub(crate) fn past_front(entries: &[InternalValue], below: SeqNo) -> usize
     requires some { 0 < length entries.now }

@@ -14,7 +14,7 @@ use lsm_below::{Headed, InternalValue, SeqNo};
 use lsm_memtable::Iter;
 use std::marker::Model;
 
-/// Whether an entry is left behind one that was passed: it counts, and has another key.
+/// Whether an entry is left after one that was passed: it counts, and has another key.
 #[inline(always)]
 fn is_left(passed: Option<&Headed<'_>>, next: &Headed<'_>, below: SeqNo) -> bool
     ensures { result ≡ (counts below next.now && not (repeats (option_copied passed.entry) next.now)) }
@@ -95,7 +95,7 @@ fn pass_back(rest: &mut Iter<'_>, below: SeqNo)
     }
 }
 
-/// Leaves out the first entry, those of its key, and what doesn't count behind it.
+/// Leaves out the first entry, those of its key, and what doesn't count after it.
 #[inline(always)]
 fn skip_front(rest: &mut Iter<'_>, below: SeqNo)
     requires rises { Rises entry_cmp rest.old }

@@ -1,4 +1,4 @@
--- A compaction in one call: what its beginning tells, and what the end of its merge tells behind it.
+-- A compaction in one call: what its beginning tells, and what the end of its merge tells after it.
 use Rattle.std.proofs.Common.{◌≡◌, ◌⊎◌, ⊎_elim, inl, inr, ℕ, List, [], ◌∷◌, ◌++◌, length, take, refl, sym, ap, ◌∙◌, subst, append-nil, Option, None, Some, IsSome, Result, Ok, Err}
 use Rattle.lsm_below.specs.declared.error.Error.{Error}
 use Rattle.lsm_below.specs.declared.error.Error.TheVariants.{CommitUnknown, AfterCommit}

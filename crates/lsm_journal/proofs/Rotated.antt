@@ -1,4 +1,4 @@
--- A flush behind a rotation.
+-- A flush after a rotation.
 use Rattle.std.proofs.Common.{ℕ, List, Option, Some, None, Result, Ok, Err, inr, subst}
 use Rattle.lsm_below.specs.declared.error.Error.{Error}
 use Rattle.lsm_store.specs.World.{World}
@@ -16,7 +16,7 @@ pub rotated_upholds : (w v : World) (old mid new : Core) (id : Option ℕ) → R
 rotated_upholds w v old mid new None t u = subst (λ c. Upholds w v c new) t.1 u
 rotated_upholds w v old mid new (Some id) t u = let behind = subst (λ c. Upholds w v c new) t.2 u in record { files = behind.files; passes = behind.passes }
 
--- ---- the flush behind it
+-- ---- the flush after it
 
 abbrev Flushed : Type 0
 Flushed = Result (Option (ℕ × Registered)) Error

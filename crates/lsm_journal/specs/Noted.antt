@@ -19,7 +19,7 @@ use Rattle.lsm_state.specs.WholeCompactions.{CompactsChoice}
 
 -- ---- choosing
 
--- a strategy of these relations answers so; behind a commit of unknown outcome it isn't asked
+-- a strategy of these relations answers so; after a commit of unknown outcome it isn't asked
 abbrev pub IsAnswerOf : Relation Choice → Relation ChooseError → Core → Result Choice Error → Type 0
 IsAnswerOf may_choose may_refuse c (Ok choice) = (c.lost ≡ None) × MayAnswer may_choose c choice
 IsAnswerOf may_choose may_refuse c (Err e) = (IsSome c.lost × (e ≡ Unrecoverable)) ⊎ ((c.lost ≡ None) × ((x : ChooseError) × MayAnswer may_refuse c x × (e ≡ error_of x)))
@@ -52,12 +52,12 @@ EndsNoted job r events old new = Finishes job r old new × MergeDeeds job r old 
 
 -- ---- in one call
 
--- what it tells behind its beginning: the install, where it was a merge and is installed in the end
+-- what it tells after its beginning: the install, where it was a merge and is installed in the end
 abbrev pub TellsBehind : Result Begun Error → Result Begun Error → Core → List Event → Type 0
 TellsBehind (Ok (Job job)) r c events = (((r ≡ Ok Installed) ⊎ (r ≡ Err AfterCommit)) × (events ≡ Install c.seqno ∷ [])) ⊎ (((r ≡ Ok Installed) → ⊥) × ((r ≡ Err AfterCommit) → ⊥) × (events ≡ []))
 TellsBehind begun r c events = events ≡ []
 
--- a choice done in one call tells what its beginning tells, and behind it what the end of its merge does
+-- a choice done in one call tells what its beginning tells, and after it what the end of its merge does
 pub record CompactsNoted (choice : Choice) (o : Options) (r : Result Begun Error) (events : List Event) (old new : Core) : Type 0 where
   pub compacts : CompactsChoice choice o r old new
   pub front : List Event

@@ -20,7 +20,7 @@ use Rattle.lsm_journal.specs.Noted.{BeginsAnswer, EndsNoted, CompactsAnswer}
 abbrev pub IsMarkedFor : SeenCompaction → Core → List Event → Type 0
 IsMarkedFor job c journal = IsOpenIn job c.merges.underway → IsMarkedIn job.settings.watermark journal
 
--- behind what it tells each of these calls leaves reads right, and what snapshots see that its events spare; the end of a merge
+-- after what it tells each of these calls leaves reads right, and what snapshots see that its events spare; the end of a merge
 -- where the watermark was marked when it began
 pub record NotedCompactionsKeepReads : Type 0 where
   pub begins : (answer : Result Choice Error) (o : Options) (r : Result Begun Error) (events : List Event) (old new : Core) → BeginsAnswer answer o r events old new → SparesReads IsAny events (AreSparedBy events) old new

@@ -99,7 +99,7 @@ fn note<S: Store>(
     Ok(Chosen { answer, entries })
 }
 
-/// Asks a strategy what it chooses for a tree, as `TreeState::choose`, and notes that. Behind a commit of unknown outcome it
+/// Asks a strategy what it chooses for a tree, as `TreeState::choose`, and notes that. After a commit of unknown outcome it
 /// isn't asked, and the answer is `Unrecoverable`. The cost is that of the strategy, and for a drop linear in the tables of
 /// the tree. Refused only where there is no room for the notes; what the strategy refuses is in the answer.
 pub fn ask<S: Store>(

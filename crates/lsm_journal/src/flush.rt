@@ -96,7 +96,7 @@ pub fn flush_noting<S: Store>(
     (flushed, cut(entries, count))
 }
 
-/// What a flush behind a rotation answers.
+/// What a flush after a rotation answers.
 fn behind(
     sealed: Option<MemtableId>,
     flushed: Result<Option<(u64, Registered)>, Error>,

@@ -92,7 +92,7 @@ gone_more ns i number mid new lt is step gone so_far k at =
     ⊎_elim (λ early. absent_after number mid new step gone (record_name k) (so_far k early)) (λ here. ap (λ (j : ℕ). new.gives (record_name j)) (sym here ∙ sym is) ∙ gone)
     (Contains-push_cases (take i ns) (get_or ns i 0) k (subst (λ (l : List ℕ). Contains l k) (take_more ns i 0 lt) at))
 
--- ---- names that are settled behind
+-- ---- names that are settled after
 
 module _ (P : ℕ → Type 0) (old mid new : World) (narrows : Narrows mid new) where
   pub clears_settled : ClearsRecords P old mid → ClearsRecords P old new

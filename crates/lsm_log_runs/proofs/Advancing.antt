@@ -69,7 +69,7 @@ by_lost old new lost certain = go old.lost refl
     go None is = certain is
     go (Some v) is = same_core old new (lost (subst (λ (p : Option SeenVersion). IsSome p) (sym is) refl))
 
--- behind what leaves the versions
+-- after what leaves the versions
 pub behind_rest : (old mid new : Core) → Rests old mid → Advances mid new → Advances old new
 behind_rest old mid new r (inl same) = inl (same ∙ r.versions)
 behind_rest old mid new r (inr made) =

@@ -36,7 +36,7 @@ module _ (opened : List Entry) (n : ℕ) where
   may_write before k Del low own single = record { after_installs = low; after_own = own; single = λ weak. absurd (cc weak) }
   may_write before k Weak low own single = record { after_installs = low; after_own = own; single = λ weak. single refl }
 
-  -- of another key nothing has changed behind it
+  -- of another key nothing has changed after it
   same_floor : (before : List Event) (e : Entry) → floor (before ++ Write e ∷ []) ≡ floor before
   same_floor before e = fold-append floor_after 0 before (Write e ∷ [])
 

@@ -1,4 +1,4 @@
--- What a rotation, a flush behind it, and a compaction lead to.
+-- What a rotation, a flush after it, and a compaction lead to.
 use Rattle.std.proofs.Common.{◌≡◌, ⊎_elim, inl, inr, ℕ, true, List, [], ◌∷◌, ◌++◌, append-nil, Option, Some, None, Result, Ok, Err, refl, sym, ap, subst}
 use Rattle.std.specs.declared.ops.Bound.{Bound}
 use Rattle.lsm_below.specs.Entries.{Entry}
@@ -113,7 +113,7 @@ module _ {S : Type 0} (world : S → World) (reading : Reading) (between : Store
     rotate_leads (Refused x) takes acts = (past, refl, same_led world reading between image past old new s rest takes.0)
     rotate_leads reply takes acts = absurd takes
 
--- ---- a flush behind it
+-- ---- a flush after it
 
 module _ {S : Type 0} (world : S → World) (reading : Reading) (between : Stores world) (image : LogImage) (past : LogPast) (old new : SeenLogged S) (s : StandsLogged world image past old) (stored : StepFiles world old new) (rest : AtRest (world new.store)) where
   flushed_behind : (watermark : ℕ) (id : Option ℕ) (reply : Reply) → ActsBehind watermark id reply (world old.store) (world new.store) old new

@@ -78,7 +78,7 @@ module _ (theory : Theory) (image : LogImage) where
       subst (λ (p : LogPast). LogRecovers (logged image) next.journal next.notes next.lost (acknowledged p) left) came.past_is
       (subst (λ (p : LogPast). LogRecovers (logged image) p.journal p.notes p.lost (acknowledged (past_of past.known past.begun t)) left) is recovers)
 
-  -- and behind them all that is acknowledged then
+  -- and after them all that is acknowledged then
   pub left_now : (past : LogPast) (t : Log) (left : LogImage) → LogCameAbout image past t → MayLeave t left → LogRecovers (logged image) past.journal past.notes past.lost (acknowledged past) left
   left_now past t left came may = left_inside past past t t [] left came refl came.past_is came.order (inl may)
 

@@ -1,4 +1,4 @@
--- What a step adds stands behind what was called before, and it leaves which flushes were begun in other slots.
+-- What a step adds stands after what was called before, and it leaves which flushes were begun in other slots.
 use Rattle.std.proofs.Common.{◌≡◌, ℕ, Bool, true, false, List, [], ◌∷◌, ◌++◌, map, Some, None, refl, sym, ap, ◌∙◌, append-nil, append_assoc, ne_eqb, cond}
 use Rattle.lsm_below.specs.Keys.{Bytes}
 use Rattle.lsm_below.specs.Ranges.{Range}
@@ -21,7 +21,7 @@ use Rattle.lsm_log_runs.specs.declared.steps.LogStep.TheVariants.{Write, RotateM
 use Rattle.lsm_log_runs.specs.Adds.{AddsBatch, AddsFlush, AddsRotation, AddsFlushActive, AddsInstalled, AddsCompaction, AddsClear, AddsBegun, AddsRegistry, AddsRegister, AddsMerge, AddsJob, Adds}
 use Rattle.lsm_log_runs.specs.Pasts.{LogPast}
 
--- the journal grows behind, and of these slots it stays which flush was begun there last
+-- the journal grows after, and of these slots it stays which flush was begun there last
 pub record Grows (Other : ℕ → Type 0) (old new : LogPast) : Type 0 where
   pub events : List Event
   pub journal : new.journal ≡ old.journal ++ events

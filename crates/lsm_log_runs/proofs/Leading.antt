@@ -1,4 +1,4 @@
--- How a call that leads by acts goes on from what stands, and what a crash leaves in it and behind it.
+-- How a call that leads by acts goes on from what stands, and what a crash leaves in it and after it.
 use Rattle.std.proofs.Common.{◌≡◌, ◌⊎◌, ⊎_elim, inl, inr, ℕ, ◌≤◌, true, List, [], ◌++◌, Option, refl, sym, ap, ◌∙◌, subst, arith}
 use Rattle.lsm_below.specs.Entries.{Entry}
 use Rattle.lsm_store.specs.World.{Image, World, IsImage, LeavesOnly}
@@ -59,7 +59,7 @@ pub record StepFiles {S : Type 0} (world : S → World) (old new : SeenLogged S)
   pub stays : StaysStored (world old.store) (world new.store) old.core new.core
   pub makes : Advances old.core new.core
 
--- of a version from before or behind
+-- of a version from before or after
 pub either_holds : (xs ys : List SeenVersion) (image : Image) → HoldsOneOf xs image ⊎ HoldsOneOf ys image → HoldsOneOf (xs ++ ys) image
 either_holds xs ys image (inl h) = (h.0, in_first h.0 xs ys h.1, h.2, h.3)
 either_holds xs ys image (inr h) = (h.0, is_in_behind h.0 xs ys h.1, h.2, h.3)

@@ -29,7 +29,7 @@ tried opened journal (Write ops) usual = each_weaker (λ p. p.1 ≡ Weak → ⊥
 tried opened journal x usual = tt
 
 module _ {F : Type 0} (world : F → World) (only_now : (store : F) (image : Image) → (world store).since (world store).moment image → IsImage (world store).may image) (once : FoundOnce) (unread : UnreadNamesDontMatter) (crashes : CrashedLogsOpen world) where
-  -- what stands behind usual steps
+  -- what stands after usual steps
   record Reached (start : Map) (steps : List LogStep) (replies : List Reply) (earlier past : LogPast) (before is : F) : Type 0 where
     then : LogPast
     all : LogPast

@@ -76,7 +76,7 @@ module _ (once : FoundOnce) (P : LogImage → Type 0) (was image : Image) (same 
     reads = reads_there;
   }
 
--- ---- behind an opening, and in it
+-- ---- after an opening, and in it
 
 -- a store of which a crash leaves only what reads as something that could be left before
 module _ (once : FoundOnce) (unread : UnreadNamesDontMatter) (old cut : World) (may : MayBeOpened old) (before : (image : Image) → IsImage cut.may image → ReadsAsBefore old image) where

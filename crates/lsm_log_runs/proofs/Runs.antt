@@ -136,7 +136,7 @@ module _ {S : Type 0} (strategies : Strategies) (tells : Type 0) (world : S → 
       whole = led.whole;
     }
 
-    -- what a step keeps, what stands behind it, and what waits then
+    -- what a step keeps, what stands after it, and what waits then
     abbrev Goes : LogStep → Reply → LogPast → LogStage S → LogStage S → Type 0
     Goes x r past old new = (next : LogPast) × StepKeeps (λ t. world t.store) opened (logged image) x r past next old.tree new.tree × SparesAnswers past next old.tree.core new.tree.core × StandsLogged world image next new.tree × AreWaiting next new.jobs
 

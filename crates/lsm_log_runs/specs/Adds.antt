@@ -36,7 +36,7 @@ abbrev pub AddsRotation : Reply → LogPast → LogPast → Type 0
 AddsRotation (Sealed (Some id)) old new = new ≡ with_sealed id old
 AddsRotation reply old new = new ≡ old
 
--- a flush behind it is of that memtable too, which stays sealed where the flush is refused
+-- a flush after it is of that memtable too, which stays sealed where the flush is refused
 abbrev pub AddsFlushActive : ℕ → Reply → LogPast → LogPast → Type 0
 AddsFlushActive w (FlushedActive id a) old new = (mid : LogPast) × AddsRotation (Sealed id) old mid × AddsFlush w (Flushed a) mid new
 AddsFlushActive w (RefusedActive id x) old new = (mid : LogPast) × AddsRotation (Sealed id) old mid × AddsFlush w (Refused x) mid new

@@ -34,7 +34,7 @@ pub record HoldsLogged (P : LogImage → Type 0) (image : Image) : Type 0 where
   pub good : (v : SeenVersion) → ReadsVersion image v → IsBadLog image v.log_from → ⊥
   pub reads : (v : SeenVersion) (records : List Record) → ReadsLog image v records → P (image_read v records)
 
--- an image that an opening takes, and that stands for a beginning between batches, at this place or behind it, to which the batch or a
+-- an image that an opening takes, and that stands for a beginning between batches, at this place or after it, to which the batch or a
 -- clear of unknown outcome at that very place may be added
 abbrev pub Keeps : Map → LogPast → ℕ → Image → Type 0
 Keeps start past least image = HoldsLogged (LogRecovers start past.journal past.notes past.lost least) image

@@ -14,11 +14,11 @@ use Rattle.lsm_log_runs.specs.Moments.{MayBeTried, StepKeeps}
 use Rattle.lsm_log_runs.specs.Pasts.{LogPast, acknowledged}
 use Rattle.lsm_log_runs.specs.Standing.{StandsLogged}
 
--- what a snapshot sees that is answered before a step and behind it stays, but where the step wrote, cleared or dropped below it
+-- what a snapshot sees that is answered before a step and after it stays, but where the step wrote, cleared or dropped below it
 abbrev pub SparesAnswers : LogPast → LogPast → Core → Core → Type 0
 SparesAnswers past next old new = (events : List Event) × (next.journal ≡ past.journal ++ events) × Spares events old new
 
--- along steps and their replies: what each step keeps and spares, and what stands behind it, so that calls may go on
+-- along steps and their replies: what each step keeps and spares, and what stands after it, so that calls may go on
 abbrev pub EachLeads : {S : Type 0} → (S → World) → LogImage → List LogStep → List Reply → LogPast → SeenLogged S → List (SeenLogged S) → Type 0
 EachLeads world image [] [] past was [] = Unit {0}
 EachLeads world image (x ∷ steps) (r ∷ replies) past was (is ∷ trees) =
@@ -29,12 +29,12 @@ EachLeads world image steps replies past was trees = ⊥
 -- A run of steps with these replies, from one tree to another, over a store that tells its content. After whatever was called before:
 -- reads equal the replay, and at each moment a crash leaves a beginning between batches that holds all that was acknowledged.
 pub record RunsLogged {S : Type 0} (world : S → World) (steps : List LogStep) (replies : List Reply) (old new : SeenLogged S) : Type 0 where
-  -- a tree behind each step
+  -- a tree after each step
   pub trees : List (SeenLogged S)
   -- jobs that wait in the end are given up, and that calls no store
   pub ends : (last_of old trees).store ≡ new.store
   -- before the first step too
   pub now : (image : LogImage) (past : LogPast) → StandsLogged world image past old → LeavesNow (world old.store) (Keeps (logged image) past (acknowledged past)) × MayBeOpened (world old.store)
   pub leads : (image : LogImage) (past : LogPast) → StandsLogged world image past old → EachLeads world image steps replies past old trees
-  -- what stands behind the last step stands in the end
+  -- what stands after the last step stands in the end
   pub goes_on : (image : LogImage) (past : LogPast) → StandsLogged world image past (last_of old trees) → StandsLogged world image past new

@@ -22,7 +22,7 @@ abbrev pub IsUsual : LogStep → Type 0
 IsUsual (Write ops) = AllByRecursion (λ p. p.1 ≡ Weak → ⊥) ops
 IsUsual step = Unit {0}
 
--- what stands behind these steps, and what stood before the last one of them
+-- what stands after these steps, and what stood before the last one of them
 abbrev pub CalledBy : List LogStep → List Reply → (earlier old before new : LogPast) → Type 0
 CalledBy [] [] earlier old before new = (before ≡ earlier) × (new ≡ old)
 CalledBy (x ∷ steps) (r ∷ replies) earlier old before new = (mid : LogPast) × Adds x r old mid × CalledBy steps replies old mid before new
@@ -33,13 +33,13 @@ abbrev pub before_last : {F : Type 0} → (earlier was : F) → List F → F
 before_last earlier was [] = earlier
 before_last earlier was (is ∷ stores) = before_last was is stores
 
--- a life ended in what led from one store to another, or behind it, and the next one takes up what it left
+-- a life ended in what led from one store to another, or after it, and the next one takes up what it left
 pub record PassesOn {F : Type 0} (world : F → World) (before is next : F) : Type 0 where
   pub end : End F
   pub ends : EndsIn world (world before) (world is) end
   pub takes : TakesUp world end next
 
--- a life of usual steps on one store, in the last of which, or behind it, it ended, and what the next one takes up
+-- a life of usual steps on one store, in the last of which, or after it, it ended, and what the next one takes up
 pub record LoggedLife {F : Type 0} (world : F → World) (was next : F) : Type 0 where
   pub steps : List LogStep
   pub replies : List Reply
@@ -53,7 +53,7 @@ abbrev pub StillKept : Map → LogPast → ℕ → World → Type 0
 StillKept start past least w = (image : Image) → IsImage w.may image → Keeps start past least image
 
 -- The next one may be opened, and is kept of the life: it stands for a beginning of its calls between batches, which holds all that was
--- acknowledged before the last step; and what that acknowledged too, where the end came behind it.
+-- acknowledged before the last step; and what that acknowledged too, where the end came after it.
 pub record GoesWell {F : Type 0} (world : F → World) (was next : F) (l : LoggedLife world was next) : Type 0 where
   pub opens : MayBeOpened (world next)
   pub before : LogPast

@@ -33,10 +33,10 @@ pub record LivesLogged {F : Type 0} (world : F → World) (steps : List LogStep)
   pub above_found : above (opened_by (image_read version records)) < 2 ^ 64
   -- while it was opened a crash left what reads as before, so the life may have ended there (`OpeningLife`)
   pub opening : LeavesAsBefore (world was) (world first)
-  -- the stores behind opening, and behind each step
+  -- the stores after opening, and after each step
   pub stores : List F
   pub ends : last_of first stores ≡ is
-  -- the process may end behind opening
+  -- the process may end after opening
   pub again : MayBeOpened (world first)
   pub now : let left = image_read version records in LeavesNow (world first) (Keeps (logged left) nothing 0)
   pub keeps : let left = image_read version records in EachKeeps world (opened_by left) (logged left) steps replies nothing first stores

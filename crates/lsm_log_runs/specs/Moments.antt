@@ -1,4 +1,4 @@
--- What holds of each step of a run, and of what a crash leaves in it and behind it.
+-- What holds of each step of a run, and of what a crash leaves in it and after it.
 use Rattle.std.specs.Prelude.{◌≡◌, true, List, [], ◌∷◌}
 use Rattle.std.specs.List.{AllByRecursion}
 use Rattle.lsm_below.specs.Entries.{Entry}
@@ -34,7 +34,7 @@ MayBeTried opened journal step = Unit {0}
 pub record StepKeeps {F : Type 0} (world : F → World) (opened : List Entry) (start : Map) (step : LogStep) (reply : Reply) (past next : LogPast) (was is : F) : Type 0 where
   pub adds : Adds step reply past next
   pub answers : Answers opened start past.journal step reply
-  -- in it a crash leaves a beginning that holds all that was acknowledged before it, and behind it all that is acknowledged then
+  -- in it a crash leaves a beginning that holds all that was acknowledged before it, and after it all that is acknowledged then
   pub inside : LeavesOnly (world was) (world is) (Keeps start next (acknowledged past))
   pub now : LeavesNow (world is) (Keeps start next (acknowledged next))
   -- its process may end there, or be killed in the step, and another one opens the store
@@ -43,7 +43,7 @@ pub record StepKeeps {F : Type 0} (world : F → World) (opened : List Entry) (s
   -- while every outcome is known, that is all that was called
   pub whole : next.known ≡ true → LeavesNow (world is) (KeepsAll start next)
 
--- along steps, their replies, and a store behind each of them: as long as each batch may be tried
+-- along steps, their replies, and a store after each of them: as long as each batch may be tried
 abbrev pub EachKeeps : {F : Type 0} → (F → World) → List Entry → Map → List LogStep → List Reply → LogPast → F → List F → Type 0
 EachKeeps world opened start [] [] past was [] = Unit {0}
 EachKeeps world opened start (x ∷ steps) (r ∷ replies) past was (is ∷ stores) =

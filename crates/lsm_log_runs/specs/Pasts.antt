@@ -7,7 +7,7 @@ use Rattle.lsm_log_model.specs.Records.{Batch, entries_of}
 use Rattle.lsm_log_model.specs.Logs.{LostBatch, Logged as Log}
 use Rattle.lsm_run_model.specs.Outcomes.{sealed_in}
 
--- the journal of the calls so far, without reads; the notes beside it, newest first; the place behind the last acknowledged batch; a
+-- the journal of the calls so far, without reads; the notes beside it, newest first; the place after the last acknowledged batch; a
 -- batch of unknown outcome; whether each outcome is known; and of each slot the memtables of the flush that was begun there last
 pub record LogPast : Type 0 where
   pub journal : List Event
@@ -21,7 +21,7 @@ pub record LogPast : Type 0 where
 abbrev pub nothing : LogPast
 nothing = record { journal = []; notes = []; reached = 0; lost = None; known = true; begun = λ n. [] }
 
--- the place behind all that was acknowledged, flushed or cleared
+-- the place after all that was acknowledged, flushed or cleared
 abbrev pub acknowledged : LogPast → ℕ
 acknowledged past = max (covered past.notes) past.reached
 
@@ -53,7 +53,7 @@ with_registry slot w n past = with_flushed (past.begun slot) w n past
 abbrev pub with_begun : ℕ → LogPast → LogPast
 with_begun slot past = record past { begun = λ n. if n == slot then sealed_in past.notes else past.begun n }
 
--- a commit behind its mark, with these events; and one of unknown outcome
+-- a commit after its mark, with these events; and one of unknown outcome
 abbrev pub with_commit : ℕ → List Event → LogPast → LogPast
 with_commit w events past = record past { journal = past.journal ++ Mark w ∷ events }
 
@@ -71,7 +71,7 @@ with_unknown past = record past { known = false }
 abbrev pub with_sealed : ℕ → LogPast → LogPast
 with_sealed id past = record past { notes = SealedAt id (length past.journal) ∷ past.notes }
 
--- a clear, which covers the place behind it; one of unknown outcome is noted at its place
+-- a clear, which covers the place after it; one of unknown outcome is noted at its place
 abbrev pub with_clear : ℕ → LogPast → LogPast
 with_clear n past = record past { journal = past.journal ++ Clear n ∷ []; notes = ClearedTo (length past.journal + 1) ∷ past.notes }
 

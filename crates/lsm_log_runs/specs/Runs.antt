@@ -47,7 +47,7 @@ TakesRotate (Sealed id) old new = Rotates old.core id new.core × StaysBeside ol
 TakesRotate (Refused x) old new = (new ≡ old) × ((x ≡ OutOfNumbers) ⊎ (x ≡ OutOfMemory)) × (x ≡ OutOfNumbers → 2 ^ 63 ≤ old.core.next_memtable) × (first_entries old.core.memtables ≡ [] → ⊥)
 TakesRotate reply old new = ⊥
 
--- and a flush behind it; refused, it is the rotation or the flush that is
+-- and a flush after it; refused, it is the rotation or the flush that is
 abbrev pub TakesFlushActive : {S : Type 0} → ℕ → Reply → SeenLogged S → SeenLogged S → Type 0
 TakesFlushActive {S} w (FlushedActive id a) old new = (mid : SeenLogged S) × TakesRotate (Sealed id) old mid × TakesFlush w (Flushed a) mid new
 TakesFlushActive {S} w (RefusedActive id x) old new = ((id ≡ None) × TakesRotate (Refused x) old new) ⊎ ((mid : SeenLogged S) × TakesRotate (Sealed id) old mid × TakesFlush w (Refused x) mid new)
@@ -102,7 +102,7 @@ RanThrough strategies [] [] old [] = Unit {0}
 RanThrough strategies (x ∷ steps) (r ∷ replies) old (mid ∷ stages) = Takes strategies x r old mid × RanThrough strategies steps replies mid stages
 RanThrough strategies steps replies old stages = ⊥
 
--- They lead so from a tree beside free slots, and each job that waits behind them is given up.
+-- They lead so from a tree beside free slots, and each job that waits after them is given up.
 pub record RanLogged {S : Type 0} (strategies : Strategies) (steps : List LogStep) (replies : List Reply) (old new : SeenLogged S) : Type 0 where
   pub stages : List (LogStage S)
   pub ran : RanThrough strategies steps replies (at_first old) stages

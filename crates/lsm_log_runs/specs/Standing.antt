@@ -1,4 +1,4 @@
--- What stands behind the calls so far: a logged tree of the theory beside the product's, whose records and files are in its store.
+-- What stands after the calls so far: a logged tree of the theory beside the product's, whose records and files are in its store.
 use Rattle.lsm_store.specs.World.{World}
 use Rattle.lsm_commit.specs.Stored.{IsStored}
 use Rattle.lsm_log_model.specs.Records.{LogImage, opened_by}

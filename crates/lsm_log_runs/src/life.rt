@@ -97,9 +97,9 @@ pub fn standing_logs_are_taken<S: Store>(store: &S)
 }
 
 /// Over any number of lives of usual steps (no batch removes a key weakly), each ended by a crash in its last step or
-/// behind it, or as its process is killed there or ends: the next store may be opened, and is kept of the life: it stands
+/// after it, or as its process is killed there or ends: the next store may be opened, and is kept of the life: it stands
 /// for a beginning of its calls between batches, which holds all that was acknowledged, flushed or cleared before the last
-/// step, and where the end came behind that one, what it acknowledged too. A life may also end in its opening: then all is
+/// step, and where the end came after that one, what it acknowledged too. A life may also end in its opening: then all is
 /// kept that was.
 ///
 /// # Examples

@@ -154,7 +154,7 @@ fn take_steps<S: Store>(
 /// sees but a write, a clear or a drop numbered below it; at each moment a crash leaves an image that `Logged::open` takes,
 /// and that stands for a beginning of the calls between batches, which holds all that was acknowledged, flushed or cleared
 /// before the step of that moment: each batch is in it whole, or not at all. While every outcome is known, an image stands
-/// for all that was called. A process that is killed in a step leaves what `Logged::open` takes, too. Behind each step the
+/// for all that was called. A process that is killed in a step leaves what `Logged::open` takes, too. After each step the
 /// same holds again, so that calls may go on.
 ///
 /// # Examples
@@ -174,7 +174,7 @@ pub fn run_logged<S: Store>(
     ensures whole { OnOk result.ended (length result.replies.items ≡ length steps.now) }
     // Each step is the call that it is named after.
     ensures ran { RanLogged (strategies_of (λ b. may_choose b) (λ b. may_refuse b) strategies.now) (take (length result.replies.items) steps.now) result.replies.items tree.old tree.new }
-    // What is read and spared, what a crash or a kill leaves at each moment, and what stands behind each step.
+    // What is read and spared, what a crash or a kill leaves at each moment, and what stands after each step.
     ensures runs { S.tells → RunsLogged S.world (take (length result.replies.items) steps.now) result.replies.items tree.old tree.new }
     // The store is blamed only where a call of it failed.
     ensures causes { EachHasCause S.world result.replies.items tree.old.store tree.new.store }

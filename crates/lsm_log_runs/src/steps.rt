@@ -9,7 +9,7 @@ use std::ops::Bound;
 /// sets or draws a counter, since a batch draws its number itself.
 #[derive(Drop, Debug)]
 pub enum LogStep {
-    /// Writes a batch under the next sequence number, behind its record.
+    /// Writes a batch under the next sequence number, after its record.
     Write(Ops),
     /// Reads a key at a snapshot.
     Get(UserKey, SeqNo),

@@ -96,7 +96,7 @@ fn keep_possible(
     Ok(())
 }
 
-/// Draws what is to be left of the name that a number has behind these letters.
+/// Draws what is to be left of the name that a number has after these letters.
 fn add_name(
     alloc: Global,
     random: &mut Random,

@@ -62,7 +62,7 @@ pub struct Script {
     pub steps: Vec<LogStep>,
     /// Which store call of the life fails, and how.
     pub fault: Option<(u64, Fault)>,
-    /// Whether the steps go on behind the fault.
+    /// Whether the steps go on after the fault.
     pub goes_on: bool,
     /// Whether there is a crash at the end.
     pub crashes: bool,
@@ -116,7 +116,7 @@ fn draw_batch(
     Ok(LogStep::Write(Ops::new(ops)))
 }
 
-/// From a key to one that isn't far behind it.
+/// From a key to one that isn't far after it.
 fn draw_bounds(random: &mut Random) -> (Bound<UserKey>, Bound<UserKey>) {
     let low = draw_place(random) % COUNT;
     let high = low + draw_place(random) % COUNT / 2;
@@ -184,7 +184,7 @@ fn draw_steps(
     Ok(steps)
 }
 
-/// The fault of one of so many store calls, or none: then the process ends behind the steps.
+/// The fault of one of so many store calls, or none: then the process ends after the steps.
 fn draw_fault(random: &mut Random, calls: u64) -> Option<(u64, Fault)> {
     let call = random.below(calls).saturating_add(1);
     match random.below(8) {

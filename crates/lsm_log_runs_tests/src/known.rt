@@ -41,7 +41,7 @@ impl Told {
     }
 }
 
-/// Whether the outcome of a commit is unknown behind this reply.
+/// Whether the outcome of a commit is unknown after this reply.
 fn is_unknown(reply: &Reply) -> bool {
     matches!(
         reply,
@@ -88,7 +88,7 @@ impl Known {
         }
     }
 
-    /// Behind a batch or a clear that makes this of the tree. None where it can't be answered so.
+    /// After a batch or a clear that makes this of the tree. None where it can't be answered so.
     fn committed(self, table: Table, step: &LogStep, reply: &Reply) -> Option<Known> {
         if self.shut {
             return is_shut(reply).then_some(self);
@@ -103,7 +103,7 @@ impl Known {
         }
     }
 
-    /// Behind a drop of tables, which may have been done.
+    /// After a drop of tables, which may have been done.
     fn dropped(self, part: &Part<'_>, reply: &Reply) -> Known {
         match reply {
             Reply::Compacted(Compacted::Installed)
@@ -114,7 +114,7 @@ impl Known {
         }
     }
 
-    /// Behind a read of these keys.
+    /// After a read of these keys.
     fn listed(self, part: &Part<'_>, reply: &Reply) -> Option<Known> {
         match reply {
             Reply::Pairs(pairs) => {
@@ -153,7 +153,7 @@ impl Known {
         }
     }
 
-    /// What is known behind a step. None where it can't be answered so.
+    /// What is known after a step. None where it can't be answered so.
     pub fn behind(self, step: &LogStep, reply: &Reply) -> Option<Known> {
         let known = self.replied(step, reply)?;
         Some(Known {

@@ -1,4 +1,4 @@
-//! Tests of `lsm_log_runs`: what was acknowledged is there behind any crash, whole.
+//! Tests of `lsm_log_runs`: what was acknowledged is there after any crash, whole.
 //!
 //! | Module | Tests |
 //! |-|-|

@@ -253,7 +253,7 @@ fn lived(
     Ok((right, tree.into_store()))
 }
 
-/// The same of a life behind a crash.
+/// The same of a life after a crash.
 fn lived_behind(
     alloc: Global,
     store: &MemStore,
@@ -270,7 +270,7 @@ fn lived_behind(
     }
 }
 
-/// The same of a life, of one behind a crash without picks, and of one behind a crash with these.
+/// The same of a life, of one after a crash without picks, and of one after a crash with these.
 fn live_twice(
     alloc: Global,
     store: MemStore,

@@ -22,10 +22,10 @@ const SCRIPTS: u64 = 2_000;
 /// The seeds of the scripts begin here.
 const SEED: u64 = 20_000;
 
-/// Of so many scripts one goes on behind its crash, and crashes once more.
+/// Of so many scripts one goes on after its crash, and crashes once more.
 const SECOND: u64 = 3;
 
-/// What is known behind these steps. None where one of them can't be answered so.
+/// What is known after these steps. None where one of them can't be answered so.
 fn behind(
     steps: &[LogStep],
     taken: &TakenLogged,
@@ -153,7 +153,7 @@ fn crash_twice(
     }
 }
 
-/// Ends a life, by a crash behind so many steps or without one, and opens what is left. The next life begins with what was
+/// Ends a life, by a crash after so many steps or without one, and opens what is left. The next life begins with what was
 /// opened, or with what the crash left.
 fn end(
     alloc: Global,

@@ -23,7 +23,7 @@ pub enum Shown {
 }
 
 impl Shown {
-    /// What is to be shown behind an operation.
+    /// What is to be shown after an operation.
     fn behind(op: &Op) -> Shown {
         match op {
             Op::Set(value) => match value.as_slice().try_into() {
@@ -96,7 +96,7 @@ impl Table {
         shown: [Shown::Nothing; COUNT],
     };
 
-    /// The table behind a batch, all of it.
+    /// The table after a batch, all of it.
     pub fn with(self, ops: &[(UserKey, Op)]) -> Table {
         let mut shown = self.shown;
         for (key, op) in ops {
@@ -109,7 +109,7 @@ impl Table {
         Table { shown }
     }
 
-    /// The table behind a drop of tables within these bounds.
+    /// The table after a drop of tables within these bounds.
     pub fn without(self, part: &Part<'_>) -> Table {
         let mut shown = self.shown;
         for (name, place) in KEYS.iter().zip(&mut shown) {

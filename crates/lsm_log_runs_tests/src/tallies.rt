@@ -11,9 +11,9 @@ pub struct Tally {
     pub batches: u64,
     /// Lives in which an outcome was unknown, of a commit or of a record.
     pub shut: u64,
-    /// Lives behind which a batch or clear of unknown outcome wasn't there.
+    /// Lives after which a batch or clear of unknown outcome wasn't there.
     pub lost: u64,
-    /// Lives behind which it was.
+    /// Lives after which it was.
     pub kept: u64,
     /// Flushes that were installed in one call.
     pub flushed: u64,

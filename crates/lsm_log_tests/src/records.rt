@@ -99,7 +99,7 @@ fn cuts_and_changed_bytes_are_refused(rt: HostRuntime) -> Result<(), Fail> {
     Ok(())
 }
 
-/// The letters of a table, a weak removal with a value, and a byte behind the last operation.
+/// The letters of a table, a weak removal with a value, and a byte after the last operation.
 #[test]
 fn others_are_refused(rt: HostRuntime) -> Result<(), Fail> {
     for (place, byte) in [(3, 0x54), (18, 2)] {

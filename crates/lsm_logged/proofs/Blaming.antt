@@ -19,7 +19,7 @@ none_counted old new x counts = counts.none (λ h. cc h) (λ h. cc h)
 pub one_failed : (old mid new : World) → mid.failures ≡ old.failures → new.failures ≡ min (mid.failures + 1) (2 ^ 64 - 1) → HasFailed old new
 one_failed old mid new same more = omega (arith, same, more)
 
--- a call that is refused, behind those that are answered
+-- a call that is refused, after those that are answered
 pub counted_behind : {A B : Type 0} (old mid new : World) (e : Error) → mid.failures ≡ old.failures → CountsFaults {T = A} mid new (Err e) → CountsFaults {T = B} old new (Err e)
 counted_behind {A} {B} old mid new e same counts = record {
   store = λ h. counts.store (ap Err (err_is e Store h)) ∙ more;
@@ -33,6 +33,6 @@ counted_behind {A} {B} old mid new e same counts = record {
     err_is : {T : Type 0} (e f : Error) → IsErrOf {T = T} (Err e) f → e ≡ f
     err_is e f h = cc h
 
--- and none behind them
+-- and none after them
 pub none_behind : {T : Type 0} (old new : World) (x : T) → new.failures ≡ old.failures → CountsFaults old new (Ok x)
 none_behind old new x same = record { store = λ h. absurd (cc h); unknown = λ h. absurd (cc h); none = λ s u. same }

@@ -38,7 +38,7 @@ module _ {S : Type 0} (read : PlainNumbersAreRead) (w w' : World) (old new : See
   both : (old.doubted ≡ false) × (old.core.lost ≡ None)
   both = let two = neither old.doubted (is_some old.core.lost) sure in (two.0, none_left old.core.lost two.1)
 
-  -- it stands, and records are removed behind it
+  -- it stands, and records are removed after it
   pub cleared_leads : new.core ≡ cleared old.core → Deeds opened (saved_of journal notes old.core) (Done (clear_of old) ∷ []) (saved_of (journal ++ Clear old.core.seqno ∷ []) (ClearedTo (length journal + 1) ∷ notes) new.core)
       → UpholdsFiles w w' old.core new.core → Passed (log_from_of new.core) w w' → RemovesBehind w w' old.core new.core → LeadsByClear opened journal notes t w w' old new
   cleared_leads core deeds files passed behind =
@@ -102,7 +102,7 @@ module _ {S : Type 0} (w w' : World) (old new : SeenLogged S) where
       let there = subst (λ c. Deeds opened (saved_of journal notes old.core) (Done (clear_of old) ∷ []) (saved_of (journal ++ Clear old.core.seqno ∷ []) (ClearedTo (length journal + 1) ∷ notes) c)) (sym same) deed in
       cleared_leads read w w' old new sure doubt small opened journal notes t is keeps next (same ∙ clears.ok.1) there files passed behind
 
--- the same of a tree's clear, and a removal of records behind it
+-- the same of a tree's clear, and a removal of records after it
 pub cleared_acts : {S : Type 0} (world : S → World) (tree mid : Seen S) (numbers : List ℕ) (doubted : Bool) (new seen : SeenLogged S) → logged_with tree numbers doubted ≡ seen → PlainNumbersAreRead → is_unsure seen ≡ false → new.doubted ≡ doubted → seen.core.seqno < 2 ^ 64
     → (n : ℕ) → Clears (Ok n) tree.core mid.core → ClearDeeds (Ok n) tree.core mid.core → new.core ≡ mid.core → LeavesLogged world seen new → ClearsAct (Ok n) (world seen.store) (world new.store) seen new
 cleared_acts world tree mid numbers doubted new seen view read sure doubt small n clears deeds same left =

@@ -1,4 +1,4 @@
--- A commit of a logged tree, behind a mark, is an act of the theory.
+-- A commit of a logged tree, after a mark, is an act of the theory.
 use Rattle.std.proofs.Common.{◌≡◌, ℕ, ◌+◌, ◌<◌, ◌≤◌, ◌^◌, true, false, List, [], ◌∷◌, ◌++◌, Some, None, sym, ap, ◌∙◌, subst, arith, append_assoc}
 use Rattle.lsm_below.specs.Entries.{Entry}
 use Rattle.lsm_below.specs.Numbers.{PlainNumbersAreRead}

@@ -34,7 +34,7 @@ use Rattle.lsm_logged.specs.Acting.{LeadsBy, LeadsByCommit, LeadsByLost, sealed_
 use Rattle.lsm_logged.proofs.Led.{leads_nowhere}
 use Rattle.lsm_logged.proofs.CommitActs.{commit_leads, lost_leads}
 
--- ---- from where a log is read behind a flush
+-- ---- from where a log is read after a flush
 
 highest_above : (m : ℕ) (es : List Entry) → max m (unwrap_or (highest_of es) 0) + 1 ≡ max (m + 1) (above es)
 highest_above m [] = omega arith

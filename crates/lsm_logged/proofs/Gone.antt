@@ -1,4 +1,4 @@
--- Behind a removal of records no file is left of the versions and orphans of which a commit, or an opening, before it left none.
+-- After a removal of records no file is left of the versions and orphans of which a commit, or an opening, before it left none.
 use Rattle.std.proofs.Common.{◌≡◌, ◌≢◌, ◌⊎◌, inl, inr, refl, ℕ, Bool, true, false, List, get_or, drop, length, None, Contains, arith, sym, ap, ◌∙◌, subst}
 use Rattle.lsm_below.specs.Each.{each_weaker}
 use Rattle.lsm_store.specs.World.{World}
@@ -38,7 +38,7 @@ gone_behind world tree mid numbers doubted new seen view same keeps left =
     subst (λ t. LeavesNoVersions (world new.store) t.core.history new.core.history) view
     (subst (λ (k : Core). LeavesNoVersions (world new.store) tree.core.history k.history) (sym same) (still_gone numbers (world mid.store) (world new.store) tree.core.history mid.core.history keeps left))
 
--- a removal of records behind a registered flush: what is unclean then was so before, or became so
+-- a removal of records after a registered flush: what is unclean then was so before, or became so
 pub cleaned_cause : (flushed r : Registered) (old mid new : World) → HasCause (flushed.cleaned ≡ false) old mid → HasCause (flushed.cleaned ≡ true × r.cleaned ≡ false) mid new → HasCause (r.cleaned ≡ false) old new
 cleaned_cause flushed r old mid new first second = causes_then _ _ _ old mid new first second (either flushed.cleaned refl)
   where

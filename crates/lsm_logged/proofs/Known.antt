@@ -1,4 +1,4 @@
--- Which records are known, behind calls that pass records or remove some.
+-- Which records are known, after calls that pass records or remove some.
 use Rattle.std.proofs.Common.{◌≡◌, ◌≢◌, ◌⊎◌, ⊎_elim, inl, inr, ℕ, ◌<◌, ◌^◌, Bool, true, false, List, [], ◌∷◌, eqb, eqb-true, take, drop, Option, None, IsSome, Contains, Result, Ok, Err, OnOk, OnErr, refl, sym, subst, arith}
 use Rattle.std.proofs.lemmas.List.{take-append-drop}
 use Rattle.std.specs.List.{All, AllByRecursion}
@@ -44,7 +44,7 @@ passes_known old new numbers passes known k small there = known k small (subst (
 keeps_all : (old new : World) (numbers : List ℕ) → Passes old new → KeepsKnown old new numbers numbers
 keeps_all old new numbers passes = record { forgotten = λ k has. inl has; known = passes_known old new numbers passes }
 
--- what a call behind another one keeps known, where that changed neither the store nor the numbers
+-- what a call after another one keeps known, where that changed neither the store nor the numbers
 pub known_behind : {S : Type 0} (world : S → World) (old mid new : SeenLogged S) → mid.store ≡ old.store → mid.numbers ≡ old.numbers → KeepsKnown (world mid.store) (world new.store) mid.numbers new.numbers → KeepsKnown (world old.store) (world new.store) old.numbers new.numbers
 known_behind world old mid new store numbers known = subst (λ l. KeepsKnown (world old.store) (world new.store) l new.numbers) numbers (subst (λ s. KeepsKnown (world s) (world new.store) mid.numbers new.numbers) store known)
 
@@ -82,7 +82,7 @@ module _ (read : PlainNumbersAreRead) (from : ℕ) (numbers left : List ℕ) (fi
       stays known k small there =
           ⊎_elim (λ kept. kept) (λ gone. let no = subst (λ (c : Option (List ℕ)). IsSome c) gone there in absurd (cc no)) (forgotten k (was_known known k small there))
 
--- ---- a logged tree, of which a commit and a removal behind it are told
+-- ---- a logged tree, of which a commit and a removal after it are told
 
 -- which records are known, beside what is left
 pub record LeavesLogged {S : Type 0} (world : S → World) (old new : SeenLogged S) : Type 0 where

@@ -89,11 +89,11 @@ module _ (opened : List Entry) where
     drawn = (λ q. (commits q).2, rest.drawn);
   }
 
-  -- a mark, and acts behind it
+  -- a mark, and acts after it
   marked : (t : Log) (w : ℕ) (m : Saved) (acts : List Act) (s : Saved) (f o c : ℕ) (K : Type 0) → IsDone opened t.tree (Marked w) m → t.log_from ≤ f → Lifted opened (did t (Marked w) m) acts s f o c K → Lifted opened t (Did (Marked w) ∷ acts) s f o c K
   marked t w m acts s f o c K one le rest = first t (Marked w) m acts s f o c K refl (λ q. absurd (cc q)) one le rest
 
-  -- what may be drawn may be drawn behind a mark
+  -- what may be drawn may be drawn after a mark
   drawn_on : (t : Log) (w : ℕ) (m : Saved) (n : ℕ) → IsDone opened t.tree (Marked w) m → MayBeDrawn opened t n → MayBeDrawn opened (did t (Marked w) m) n
   drawn_on t w m n one next = record {
     above_journal = let e = ap (λ (x : State). next_number opened x.journal) one.step ∙ fold-append next_number_after (above opened) t.tree.state.journal (Mark w ∷ []) in let a = next.above_journal in omega (arith, e, a);
@@ -104,7 +104,7 @@ module _ (opened : List Entry) where
   certain_on : (t : Log) (w : ℕ) (m : Saved) → IsDone opened t.tree (Marked w) m → IsCertain t → IsCertain (did t (Marked w) m)
   certain_on t w m one certain = (one.others ∙ certain.0, certain.1)
 
-  -- a commit, and maintenance behind it
+  -- a commit, and maintenance after it
   pub kept_up : (t : Log) (n w : ℕ) (action : Action) (tree : Saved) (told : List Event) → IsCertain t → MayBeDrawn opened t n → is_write action ≡ false → is_install action ≡ true → tree.state.journal ≡ told ++ Install n ∷ []
       → t.log_from ≤ next_from t.tree.state t.log_from action → Deeds opened t.tree (Done action ∷ (Done (Maintained w) ∷ [])) tree → Lifted opened t (Did action ∷ (Did (Maintained w) ∷ [])) tree (next_from t.tree.state t.log_from action) t.other_from (n + 1) (Unit {0})
   kept_up t n w action tree told certain next silent installs journal rises d =
@@ -131,7 +131,7 @@ module _ (opened : List Entry) where
     drawn = (omega (arith, number), tt);
   }
 
-  -- the same behind a mark: `log_from` depends on the memtables alone, which a mark leaves
+  -- the same after a mark: `log_from` depends on the memtables alone, which a mark leaves
   module _ (t : Log) (n w : ℕ) (action : Action) (tree : Saved) (told : List Event) (certain : IsCertain t) (next : MayBeDrawn opened t n) (silent : is_write action ≡ false) (installs : is_install action ≡ true)
       (f : ℕ) (from : (x : State) → x.mems ≡ t.tree.state.mems → next_from x t.log_from action ≡ f) (rises : t.log_from ≤ f) where
     abbrev behind : Saved → Log

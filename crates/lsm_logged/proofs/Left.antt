@@ -1,4 +1,4 @@
--- What is left of a log in a store, behind a call that passes records or removes some.
+-- What is left of a log in a store, after a call that passes records or removes some.
 use Rattle.std.proofs.Common.{◌≡◌, ◌≢◌, ◌⊎◌, ⊎_elim, inl, inr, ℕ, ◌<◌, ◌≤◌, ◌^◌, true, false, cond, List, [], ◌∷◌, ◌++◌, Option, Some, None, refl, sym, ap, ◌∙◌, subst, arith, leb, codes, decimal}
 use Rattle.std.specs.List.{AllByRecursion}
 use Rattle.std.proofs.lemmas.Bool.{leb-false}
@@ -94,7 +94,7 @@ none_gone : (bs : List Batch) → AllByRecursion (λ b. ⊥ → ⊥) bs
 none_gone [] = tt
 none_gone (b ∷ bs) = ((λ no. no), none_gone bs)
 
--- ---- behind a call
+-- ---- after a call
 
 split : {A : Type 0} (x : A) (xs ys : List A) → IsIn x (xs ++ ys) → IsIn x xs ⊎ IsIn x ys
 split x [] ys i = inr i

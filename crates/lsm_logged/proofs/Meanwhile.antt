@@ -372,7 +372,7 @@ module _ {S : Type 0} (world : S → World) (once : FoundOnce) (unread : UnreadN
   pub files_left : (left : S) → LeavesStanding (world store) (world left) → LeavesAsBefore (world store) (world left)
   files_left left leaves = record { meanwhile = moment left leaves; again = (opening left leaves).again }
 
-  -- and records are removed behind that
+  -- and records are removed after that
   pub records_left : (mid new : S) → IsImage (world mid).may (world mid).gives → ((image : Image) → (world store).moment ≤ (world mid).moment → IsImage (world mid).may image → (world mid).since (world store).moment image)
       → (versions : List SeenVersion) (written : List SeenTable) → versions ≡ v ∷ [] → LeavesStanding (world store) (world mid) → Passes (world store) (world mid) → IsStored (world mid) versions written
       → ClearsRecords (IsBelow v.log_from) (world mid) (world new) → LeavesOnly (world mid) (world new) (AreCleared (IsBelow v.log_from) (world mid)) → LeavesAsBefore (world store) (world new)

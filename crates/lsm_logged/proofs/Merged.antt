@@ -125,7 +125,7 @@ module _ (job : SeenCompaction) (r : Result Finished Error) (mid new : Core) (fi
         from = ap log_from_of s.2;
       }
 
--- ---- behind the mark of its beginning
+-- ---- after the mark of its beginning
 
 module _ (job : SeenCompaction) (old mid new : Core) (mark : IsMarkDeed job.settings.watermark old mid) (number : mid.seqno ≡ old.seqno) (order : HasOrder old → HasOrder mid) where
   abbrev w : ℕ

@@ -1,4 +1,4 @@
--- Records that the version has passed are removed, behind a commit or not.
+-- Records that the version has passed are removed, after a commit or not.
 use Rattle.std.proofs.Common.{◌≡◌, ⊎_elim, inl, inr, ℕ, Bool, List, [], ◌++◌, Option, Some, None, Result, sym, ap, ◌∙◌, subst}
 use Rattle.lsm_below.specs.Each.{each_append}
 use Rattle.lsm_below.specs.Members.{IsIn, each_in}
@@ -101,7 +101,7 @@ module _ {S : Type 0} (world : S → World) (tree mid : Seen S) (numbers : List 
   pub none_alone : RemovesBehind (world seen.store) (world mid.store) seen.core mid.core
   none_alone = subst (λ t. RemovesBehind (world t.store) (world mid.store) t.core mid.core) view (none_behind (world tree.store) (world mid.store) tree.core mid.core passes)
 
--- ---- behind a rotation
+-- ---- after a rotation
 
 pub rotation_keeps : (id : Option ℕ) (old mid : Core) → Rotates old id mid → (versions_left mid ≡ versions_left old) × (written_of mid ≡ written_of old)
 rotation_keeps None old mid r = (ap versions_left r.1, ap written_of r.1)
@@ -121,7 +121,7 @@ module _ (w new : World) (id : Option ℕ) (old mid core : Core) (rotates : Rota
       let then = files (stays stored) in
       (then.0, subst (λ vs. LeavesOnly w new (HoldsOneOf (vs ++ versions_left core))) (rotation_keeps id old mid rotates).0 then.1)
 
--- the same of the trees before and behind it
+-- the same of the trees before and after it
 module _ {S : Type 0} (world : S → World) (old mid new : SeenLogged S) (id : Option ℕ) (rotates : Rotates old.core id mid.core) (store : mid.store ≡ old.store) where
   pub behind_rotated : RemovesBehind (world mid.store) (world new.store) mid.core new.core → RemovesBehind (world old.store) (world new.store) old.core new.core
   behind_rotated behind = behind_rotation (world old.store) (world new.store) id old.core mid.core new.core rotates (subst (λ s. RemovesBehind (world s) (world new.store) mid.core new.core) store behind)

@@ -130,7 +130,7 @@ module _ (image : Image) (from : ℕ) (passed numbers : List ℕ) (log : IsLogAt
         let each = there log.records log.log.records_are in
         All-contains (λ k. IsNoRecordAt left k → ⊥) numbers lacks.0 (All-from_recursion (λ k. IsNoRecordAt left k → ⊥) numbers (subst (AllByRecursion (λ k. IsNoRecordAt left k → ⊥)) log.named each)) lacks.1 lacks.2
 
--- ---- what is removed behind it
+-- ---- what is removed after it
 
 pub clears_none : (P : ℕ → Type 0) (old new : World) → Same old new → ClearsRecords P old new
 clears_none P old new same = record {

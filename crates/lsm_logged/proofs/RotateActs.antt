@@ -1,4 +1,4 @@
--- A rotation of a logged tree is an act of the theory, and a flush behind it acts on.
+-- A rotation of a logged tree is an act of the theory, and a flush after it acts on.
 use Rattle.std.proofs.Common.{◌≡◌, ◌⊎◌, ⊎_elim, ℕ, ◌<◌, ◌≤◌, Bool, List, [], ◌∷◌, ◌++◌, length, map, Option, Some, None, option_to_list, Result, Ok, Err, IfOk, refl, sym, ap, ◌∙◌, subst, arith}
 use Rattle.std.specs.FinMap.{get}
 use Rattle.std.specs.List.{AllByRecursion}
@@ -92,7 +92,7 @@ module _ {S : Type 0} (w : World) (old mid : SeenLogged S) (doubt : mid.doubted 
       } in
       (mid, one, acts opened start journal (sealed_notes id journal old.core ++ notes) one.log one.is one.keeps drawn (subst (λ (s : Saved). Holds opened start s.state) (sym one.is.tree) (holds_on id rotates)))
 
--- the same of the trees before and behind, of which the first one is known from inside
+-- the same of the trees before and after, of which the first one is known from inside
 pub flushed_behind : {S : Type 0} (world : S → World) (tree : Seen S) (numbers : List ℕ) (doubted : Bool) (old mid new : SeenLogged S) → logged_with tree numbers doubted ≡ old → AtRest (world old.store) → FlushesAreDeeds → IsKeptTree tree.core → mid.store ≡ old.store → mid.doubted ≡ old.doubted
     → (watermark : ℕ) (id : Option ℕ) (r : Result (Option (ℕ × Registered)) Error) → Rotates old.core id mid.core → FlushesAct watermark r (world mid.store) (world new.store) mid new
     → (opened : List Entry) (start : Map) (journal : List Event) (notes : List Note) (t : Log) → IsLogOf journal notes old.core old.doubted t → KeepsLog (world old.store) t → MayBeDrawn opened t old.core.seqno → Holds opened start t.tree.state → ActsBehind watermark id r (world old.store) (world new.store) old new opened journal notes t

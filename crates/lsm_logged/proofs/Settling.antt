@@ -61,7 +61,7 @@ kept_log w t from keeps le = record {
   refused = λ n refused. always_absent w n (keeps.named n refused);
 }
 
--- behind a crash each name has one content
+-- after a crash each name has one content
 pub left_log : (w : World) (image : Image) (from : ℕ) → Begins image w → CanBeSettled w from
 left_log w image from begins = record {
   records = λ k small at. one (record_name k);

@@ -36,7 +36,7 @@ taken k n (Set v) fits lt = passes (is_long_key k) (is_long_value v) (is_great n
 taken k n Del fits lt = passes (is_long_key k) (is_long_value []) (is_great n) (short_key k fits.key) (short_value [] fits.value) (small n lt)
 taken k n Weak fits lt = passes (is_long_key k) (is_long_value []) (is_great n) (short_key k fits.key) (short_value [] fits.value) (small n lt)
 
--- one of the operations of a record, behind these
+-- one of the operations of a record, after these
 pub only_memory : (n : ℕ) (before after : List (Bytes × Op)) (k : Bytes) (op : Op) (e : Entry) (r : Result (ℕ × ℕ) Error) (old new : Core) → AllByRecursion Fits (op_entries n (before ++ (k, op) ∷ after)) → n < 2 ^ 63
     → e ≡ op_entry k n op → Appends (plain e) r old new → IfErr r (λ x. x ≡ OutOfMemory)
 only_memory n before after k op e r old new fit lt is appends =

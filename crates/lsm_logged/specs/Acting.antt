@@ -59,7 +59,7 @@ pub record LeadsBy {S : Type 0} (opened : List Entry) (journal : List Event) (no
 abbrev pub clear_of : {S : Type 0} → SeenLogged S → Action
 clear_of t = Cleared t.core.seqno t.core.next_memtable
 
--- a clear that stands, whether or not all records behind it are removed
+-- a clear that stands, whether or not all records after it are removed
 abbrev pub LeadsByClear : {S : Type 0} → (opened : List Entry) (journal : List Event) (notes : List Note) (t : Log) (w w' : World) (old new : SeenLogged S) → Type 0
 LeadsByClear opened journal notes t w w' old new = LeadsBy opened (journal ++ Clear old.core.seqno ∷ []) (ClearedTo (length journal + 1) ∷ notes) t (Did (clear_of old) ∷ []) w w' old new
 
@@ -74,7 +74,7 @@ ActsByClear (Err e) opened journal notes t w w' old new = LeadsBy opened journal
 abbrev pub ClearsAct : {S : Type 0} → Result ℕ Error → World → World → SeenLogged S → SeenLogged S → Type 0
 ClearsAct r w w' old new = (opened : List Entry) (journal : List Event) (notes : List Note) (t : Log) → IsLogOf journal notes old.core old.doubted t → KeepsLog w t → MayBeDrawn opened t old.core.seqno → ActsByClear r opened journal notes t w w' old new
 
--- ---- commits behind a mark
+-- ---- commits after a mark
 
 -- a commit that stands, at a watermark: the mark, the action, the maintenance
 abbrev pub LeadsByCommit : {S : Type 0} → ℕ → Action → List Event → List Note → (opened : List Entry) (journal : List Event) (notes : List Note) (t : Log) (w w' : World) (old new : SeenLogged S) → Type 0
@@ -120,7 +120,7 @@ pub record ActsByRegister {S : Type 0} (job : SeenWritten) (r : Result Registere
 abbrev pub RegistersAct : {S : Type 0} → SeenWritten → Result Registered Error → World → World → SeenLogged S → SeenLogged S → Type 0
 RegistersAct job r w w' old new = ForEachLog w old (ActsByRegister job r w w' old new)
 
--- ---- a rotation, and a flush behind it
+-- ---- a rotation, and a flush after it
 
 -- what sealing the active memtable does, and notes; nothing, where nothing was written to it
 abbrev pub rotation_of : Option ℕ → Core → List Act
@@ -201,7 +201,7 @@ CompactsAct watermark r w w' old new = CompactsBy (IsCompaction watermark) water
 abbrev pub merging : SeenCompaction → List Placed → Action
 merging job made = Merged job.settings.watermark job.settings.dest_level job.ids (evicts job.settings) made
 
--- installed it is an act, with the maintenance behind it, where no kept snapshot is below its watermark; so is one of unknown outcome;
+-- installed it is an act, with the maintenance after it, where no kept snapshot is below its watermark; so is one of unknown outcome;
 -- where nothing is installed, and refused otherwise, nothing is done
 pub record ActsByMerge {S : Type 0} (job : SeenCompaction) (r : Result Finished Error) (w w' : World) (old new : SeenLogged S) (opened : List Entry) (journal : List Event) (notes : List Note) (t : Log) : Type 0 where
   pub done : (r ≡ Ok IsFinished) ⊎ IsErrOf r AfterCommit → IsMarkedIn job.settings.watermark journal → (made : List Placed) × LeadsBy opened (journal ++ Install old.core.seqno ∷ []) notes t (Did (merging job made) ∷ (Did (Maintained job.settings.watermark) ∷ [])) w w' old new

@@ -21,7 +21,7 @@ use Rattle.lsm_logged.specs.Removing.{log_from_of, Forgets, HasOldOrPassed}
 abbrev pub KeepsNumbers : {S : Type 0} → SeenLogged S → SeenLogged S → Type 0
 KeepsNumbers old new = (new.numbers ≡ old.numbers) ⊎ Forgets (log_from_of new.core) old.numbers new.numbers
 
--- at each moment of a commit, and of the removal behind it, names that are none of the tree's own are as they were, or the version on
+-- at each moment of a commit, and of the removal after it, names that are none of the tree's own are as they were, or the version on
 -- the disk is the new one, and records that it has passed may be gone
 abbrev pub IsEither : World → Core → Image → Type 0
 IsEither w new image = KeepsForeign w image ⊎ (HoldsOneOf (versions_left new) image × HasOldOrPassed w (log_from_of new) image)
@@ -29,7 +29,7 @@ IsEither w new image = KeepsForeign w image ⊎ (HoldsOneOf (versions_left new) 
 abbrev pub RemovesBehind : World → World → Core → Core → Type 0
 RemovesBehind w w' old new = IsStored w (versions_left old) (written_of old) → LeavesOnly w w' (IsEither w new)
 
--- what became of a flush, once records are removed behind it
+-- what became of a flush, once records are removed after it
 pub record CleansLog {S : Type 0} (flushed r : Registered) (old new : SeenLogged S) : Type 0 where
   pub core : new.core ≡ old.core
   pub doubted : new.doubted ≡ old.doubted
@@ -61,7 +61,7 @@ pub record FlushesTree {S : Type 0} (w : ℕ) (r : Result (Option (ℕ × Regist
   pub said : IsFlushSaid told r
   pub doubted : new.doubted ≡ old.doubted
   pub numbers : KeepsNumbers old new
-  -- behind a whole clean-up no number is kept that the version has passed
+  -- after a whole clean-up no number is kept that the version has passed
   pub forgets : IfOk r (λ a. IfSome a (λ p. p.1.cleaned ≡ true → Forgets (log_from_of new.core) old.numbers new.numbers))
 
 abbrev pub FlushesLogged : {S : Type 0} → ℕ → Result (Option (ℕ × Registered)) Error → SeenLogged S → SeenLogged S → Type 0
@@ -87,7 +87,7 @@ IsRegistrySaid (Err e) r = r ≡ Err e
 
 -- ---- a clear
 
--- what the tree told of a clear, where records weren't removed behind it or were
+-- what the tree told of a clear, where records weren't removed after it or were
 abbrev pub IsClearSaid : Result ℕ Error → Result ℕ Error → Type 0
 IsClearSaid (Ok n) r = (r ≡ Ok n) ⊎ (r ≡ Err AfterCommit)
 IsClearSaid (Err e) r = r ≡ Err e

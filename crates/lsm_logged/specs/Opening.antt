@@ -103,7 +103,7 @@ pub record IsNextTable (image : Image) (v : SeenVersion) (next : ℕ) : Type 0 w
   pub fresh : image current_name ≡ None → next ≡ 0
 
 -- of each record from here on, and of each name that a log refuses, not any bytes can be left: so opening can put on the disk what it
--- reads of them. It is so behind a crash, and where a process that kept its log was killed (`logs_can_be_settled`)
+-- reads of them. It is so after a crash, and where a process that kept its log was killed (`logs_can_be_settled`)
 pub record CanBeSettled (w : World) (from : ℕ) : Type 0 where
   pub records : (k : ℕ) → k < 2 ^ 63 → from ≤ k → (impossible : Option (List ℕ)) × ¬ w.may (record_name k) impossible
   pub refused : (n : List ℕ) → kind_of n ≡ Refused → (impossible : Option (List ℕ)) × ¬ w.may n impossible

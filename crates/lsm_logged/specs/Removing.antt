@@ -24,7 +24,7 @@ pub record Forgets (from : ℕ) (old new : List ℕ) : Type 0 where
 abbrev pub AreGone : World → ℕ → List ℕ → Type 0
 AreGone w from numbers = (k : ℕ) → Contains numbers k → k < from → w.gives (record_name k) ≡ None
 
--- which records are known behind a call that may remove some
+-- which records are known after a call that may remove some
 pub record KeepsKnown (old new : World) (numbers left : List ℕ) : Type 0 where
   -- a number is forgotten only where no record of it is left
   pub forgotten : (k : ℕ) → Contains numbers k → Contains left k ⊎ (new.gives (record_name k) ≡ None)

@@ -20,7 +20,7 @@ use Rattle.lsm_logged.specs.Acting.{HoldsLog, LeadsBy}
 
 -- ---- the call
 
--- is a record's outcome unknown behind this answer?
+-- is a record's outcome unknown after this answer?
 abbrev pub leaves_doubt : Result ℕ Error → Bool
 leaves_doubt (Ok n) = false
 leaves_doubt (Err CommitUnknown) = true
@@ -32,7 +32,7 @@ with_number (Ok n) next numbers = numbers ++ next ∷ []
 with_number (Err CommitUnknown) next numbers = numbers ++ next ∷ []
 with_number (Err e) next numbers = numbers
 
--- a batch is written behind its record
+-- a batch is written after its record
 pub record WritesLogged {S : Type 0} (ops : List (Bytes × Op)) (r : Result ℕ Error) (old new : SeenLogged S) : Type 0 where
   -- where an outcome is unknown, and only there, it is `Unrecoverable`, and nothing is done
   pub unsure : is_unsure old ≡ true → (r ≡ Err Unrecoverable) × (new ≡ old)

@@ -112,7 +112,7 @@ impl<S: Store> Logged<S> {
     /// As that call, and `Unrecoverable` also where a record has unknown outcome.
     pub fn finish_compaction(&mut self, merged: MergedCompaction) -> Result<Finished, Error>
         ensures asks { Asks result self.old self.new (Finishes merged.job result self.old.core self.new.core) }
-        // As the theory sees it: a merge behind the mark of its beginning, or one of unknown outcome, else nothing.
+        // As the theory sees it: a merge after the mark of its beginning, or one of unknown outcome, else nothing.
         ensures acts { S.tells → MergesAct merged.job result (S.world self.old.store) (S.world self.new.store) self.old self.new }
         ensures upholds { S.tells → Upholds (S.world self.old.store) (S.world self.new.store) self.old.core self.new.core }
         ensures files { FinishesFiles result S.tells S.world (tree_of self.old) (tree_of self.new) }

@@ -53,7 +53,7 @@ impl<S: Store> Logged<S> {
         }
     }
 
-    /// `TreeState::flush`, behind which the records below the version's `log_from` are removed, rising: those that the flush
+    /// `TreeState::flush`, after which the records below the version's `log_from` are removed, rising: those that the flush
     /// passed, and any that were left before. `cleaned` is false too where one of them wasn't removed; the next flush or clear
     /// tries it again.
     ///
@@ -68,7 +68,7 @@ impl<S: Store> Logged<S> {
         ensures behind { S.tells → RemovesBehind (S.world self.old.store) (S.world self.new.store) self.old.core self.new.core }
         // Each record that is there stays known, and a number is forgotten only where its record is gone.
         ensures known { S.tells → KeepsKnown (S.world self.old.store) (S.world self.new.store) self.old.numbers self.new.numbers }
-        // Behind a whole clean-up no record is left that the version has passed: none of the known ones, and with `known`
+        // After a whole clean-up no record is left that the version has passed: none of the known ones, and with `known`
         // none at all.
         ensures passed_are_gone { S.tells → IfOk result (λ a. IfSome a (λ p. p.1.cleaned ≡ true → AreGone (S.world self.new.store) (log_from_of self.new.core) self.old.numbers)) }
         // As the theory sees it: a flush, or one of unknown outcome, else nothing.
@@ -106,10 +106,10 @@ impl<S: Store> Logged<S> {
         ensures behind { S.tells → RemovesBehind (S.world self.old.store) (S.world self.new.store) self.old.core self.new.core }
         // Each record that is there stays known, and a number is forgotten only where its record is gone.
         ensures known { S.tells → KeepsKnown (S.world self.old.store) (S.world self.new.store) self.old.numbers self.new.numbers }
-        // Behind a whole clean-up no record is left that the version has passed: none of the known ones, and with `known`
+        // After a whole clean-up no record is left that the version has passed: none of the known ones, and with `known`
         // none at all.
         ensures passed_are_gone { S.tells → IfOk result (λ a. IfSome a.1 (λ p. p.1.cleaned ≡ true → AreGone (S.world self.new.store) (log_from_of self.new.core) self.old.numbers)) }
-        // As the theory sees it: a rotation, and behind it a flush.
+        // As the theory sees it: a rotation, and after it a flush.
         ensures acts { S.tells → FlushesBothAct watermark result (S.world self.old.store) (S.world self.new.store) self.old self.new }
         ensures upholds { S.tells → UpholdsFiles (S.world self.old.store) (S.world self.new.store) self.old.core self.new.core }
         ensures files { FlushesActiveFiles result S.tells S.world (tree_of self.old) (tree_of self.new) }
@@ -183,7 +183,7 @@ impl<S: Store> Logged<S> {
         self.tree.abandon_flush(job);
     }
 
-    /// `TreeState::register_tables`, behind which records are removed as behind `flush`.
+    /// `TreeState::register_tables`, after which records are removed as after `flush`.
     ///
     /// # Errors
     ///
@@ -194,7 +194,7 @@ impl<S: Store> Logged<S> {
         ensures behind { S.tells → RemovesBehind (S.world self.old.store) (S.world self.new.store) self.old.core self.new.core }
         // Each record that is there stays known, and a number is forgotten only where its record is gone.
         ensures known { S.tells → KeepsKnown (S.world self.old.store) (S.world self.new.store) self.old.numbers self.new.numbers }
-        // Behind a whole clean-up no record is left that the version has passed: none of the known ones, and with `known`
+        // After a whole clean-up no record is left that the version has passed: none of the known ones, and with `known`
         // none at all.
         ensures passed_are_gone { S.tells → IfOk result (λ a. a.installed ≡ true → a.cleaned ≡ true → AreGone (S.world self.new.store) (log_from_of self.new.core) self.old.numbers) }
         // As the theory sees it: a flush, or one of unknown outcome, else nothing.
@@ -219,7 +219,7 @@ impl<S: Store> Logged<S> {
         Ok(self.clean_log(registered))
     }
 
-    /// `TreeState::clear`, behind which the records below the version's `log_from` are removed, rising: from its number on
+    /// `TreeState::clear`, after which the records below the version's `log_from` are removed, rising: from its number on
     /// a log is read, so all batches before it are forgotten, flushed or not.
     ///
     /// # Errors
@@ -232,7 +232,7 @@ impl<S: Store> Logged<S> {
         ensures behind { S.tells → RemovesBehind (S.world self.old.store) (S.world self.new.store) self.old.core self.new.core }
         // Each record that is there stays known, and a number is forgotten only where its record is gone.
         ensures known { S.tells → KeepsKnown (S.world self.old.store) (S.world self.new.store) self.old.numbers self.new.numbers }
-        // Behind a whole clean-up no record is left that the version has passed: none of the known ones, and with `known`
+        // After a whole clean-up no record is left that the version has passed: none of the known ones, and with `known`
         // none at all.
         ensures passed_are_gone { S.tells → OnOk result (AreGone (S.world self.new.store) (log_from_of self.new.core) self.old.numbers) }
         // As the theory sees it: a clear, or one of unknown outcome, else nothing.

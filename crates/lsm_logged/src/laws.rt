@@ -12,7 +12,7 @@ use lsm_manifest::images_stand_once;
 use lsm_store::Store;
 
 /// What `Logged::open` asks of a store, that it can settle the log that it reads, holds wherever a process that kept its log
-/// ended without a crash, and behind any crash.
+/// ended without a crash, and after any crash.
 pub fn logs_can_be_settled<S: Store>(_: &S)
     ensures kept { (store : S) (log : Log) (from : ℕ) → KeepsLog (S.world store) log → log.log_from ≤ from → CanBeSettled (S.world store) from }
     ensures left { (store : S) (image : Image) (from : ℕ) → Begins image (S.world store) → CanBeSettled (S.world store) from }

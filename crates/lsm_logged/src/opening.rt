@@ -149,7 +149,7 @@ impl<S: Store> Logged<S> {
     /// # Errors
     ///
     /// As `TreeState::open_raised`, and `Unrecoverable` where another name in the folder `log` isn't a number below 2^63 in plain
-    /// decimal, or a record from `log_from` on is damaged: then nothing is removed. `Store` where the store failed, also behind
+    /// decimal, or a record from `log_from` on is damaged: then nothing is removed. `Store` where the store failed, also after
     /// the replay: then some old records may be removed. A store that reads otherwise when a record is read again is
     /// `Unrecoverable` too: then the tree's files are opened, and no record is removed.
     pub fn open(alloc: Global, config: Config, store: S) -> Result<Logged<S>, (Error, S)>

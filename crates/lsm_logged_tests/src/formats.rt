@@ -56,7 +56,7 @@ fn store_in_3(alloc: Global) -> Result<MemStore, Error> {
 
 type Sizes = (usize, u64, usize);
 
-/// The length of its version's file behind a flush, from where on its log is read, how many records there are.
+/// The length of its version's file after a flush, from where on its log is read, how many records there are.
 fn flush_it(alloc: Global, tree: &mut Logged) -> Result<Sizes, Error> {
     flush(tree)?;
     let records = count_records(alloc, tree)?;

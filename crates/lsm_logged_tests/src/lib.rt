@@ -4,7 +4,7 @@
 //! |-|-|
 //! | `logs` | batches that come back, outcomes that are unknown, and records that are removed |
 //! | `formats` | a log beside a version in format 3 |
-//! | `lives` | three lives in which any one store call fails, and what crashes leave behind them |
+//! | `lives` | three lives in which any one store call fails, and what crashes leave after them |
 //! | `trees` | holds no test: logged trees, and what they show |
 #![tactic(auto)]
 

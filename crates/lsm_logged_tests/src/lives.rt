@@ -37,7 +37,7 @@ enum Known {
 }
 
 impl Known {
-    /// What is known of it behind a clear that answered so.
+    /// What is known of it after a clear that answered so.
     fn cleared(self, told: &Result<u64, Error>) -> Known {
         match (self, told) {
             (_, Ok(_) | Err(Error::AfterCommit)) => Known::Gone,
@@ -183,7 +183,7 @@ fn are_well(alloc: Global, store: &MemStore, known: Keys) -> Result<bool, Error>
     Ok(true)
 }
 
-/// The same behind the three lives, where this call of the store fails so.
+/// The same after the three lives, where this call of the store fails so.
 fn all_is_well(alloc: Global, call: u64, fault: Fault) -> Result<bool, Error> {
     let (store, known) = three_lives(alloc, call, fault);
     let told = are_well(alloc, &store, known);

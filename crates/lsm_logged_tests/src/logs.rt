@@ -62,7 +62,7 @@ fn show(
     ))
 }
 
-/// The same behind a crash.
+/// The same after a crash.
 fn show_crashed(
     alloc: Global,
     tree: &Logged,
@@ -107,7 +107,7 @@ pub fn count(alloc: Global, tree: &Logged) -> Result<(usize, usize, usize), Erro
     Ok((tree.table_count(), tree.approximate_len(), records))
 }
 
-/// The same behind a crash.
+/// The same after a crash.
 pub fn count_crashed(
     alloc: Global,
     tree: &Logged,
@@ -121,7 +121,7 @@ pub fn count_crashed(
 
 type Counted = ((bool, bool), (usize, usize, usize));
 
-/// Whether the keys are shown so behind a crash that brings the first record back, and what is counted then.
+/// Whether the keys are shown so after a crash that brings the first record back, and what is counted then.
 fn count_back(
     alloc: Global,
     tree: &Logged,
@@ -154,7 +154,7 @@ fn flushed_records_stay_passed(rt: HostRuntime) -> Result<(), Fail> {
     Ok(())
 }
 
-/// How many records there are behind two batches, behind a flush of both, behind one batch more, and behind a clear.
+/// How many records there are after two batches, after a flush of both, after one batch more, and after a clear.
 fn measure(alloc: Global, tree: &mut Logged) -> Result<(usize, usize, usize, usize), Error> {
     write_two(alloc, tree)?;
     let two = tree.log_len();
@@ -216,7 +216,7 @@ fn either(alloc: Global) -> Result<(bool, ((bool, bool), (bool, bool))), Error> 
     Ok((shut, shown?))
 }
 
-/// Behind an unknown outcome the tree is shut; opened again it has all of the batch, or nothing.
+/// After an unknown outcome the tree is shut; opened again it has all of the batch, or nothing.
 #[test]
 fn unknown_outcomes_shut_the_tree(rt: HostRuntime) -> Result<(), Fail> {
     let (shut, shown) = either(rt.alloc())?;
@@ -276,7 +276,7 @@ fn merge(alloc: Global, tree: &mut Logged) -> Result<u64, Error> {
     Ok(number)
 }
 
-/// The number of the removal, and what is shown behind a crash more.
+/// The number of the removal, and what is shown after a crash more.
 fn merge_and_crash(alloc: Global, tree: &mut Logged) -> Result<(u64, (bool, bool)), Error> {
     let number = merge(alloc, tree)?;
     Ok((number, show_crashed(alloc, tree, &[], None, None)?))

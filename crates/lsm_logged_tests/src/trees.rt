@@ -26,7 +26,7 @@ pub fn left(tree: &Logged, picks: &[(&str, Pick<'_>)]) -> Result<MemStore, Error
     }
 }
 
-/// The tree that is opened behind a crash.
+/// The tree that is opened after a crash.
 pub fn crashed(alloc: Global, tree: &Logged, picks: &[(&str, Pick<'_>)]) -> Result<Logged, Error> {
     opened(alloc, left(tree, picks)?)
 }

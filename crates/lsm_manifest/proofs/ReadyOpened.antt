@@ -125,7 +125,7 @@ module _ (first : ImagesAreFirst) (plain : PlainNumbersAreRead) (old : World) (t
           let none : old.gives current_name ≡ None = ⊎_elim (λ absent. absent) (λ read. sym read ∙ gone) q.1 in
           alike a b us none x at ∙ ready.none old.gives old.gives ts one one none finds
 
-  -- ---- behind an Ok
+  -- ---- after an Ok
 
   pub opened_leaves : (new : World) (o : Opened) → Opens old new (Ok o) → (image : Image) → IsImage new.may image → Finds image ts
   opened_leaves new o opens image at = by_found finds

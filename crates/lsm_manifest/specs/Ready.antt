@@ -54,7 +54,7 @@ ReadyHasGoodNames S world = (store : S) → IsReady (world store) → BringsGood
 abbrev pub IsOldOrRead : World → SeenLevels → Image → Type 0
 IsOldOrRead old ts image = IsImage old.may image ⊎ Finds image ts
 
--- opening a ready store leaves at each moment what could be left before it, or the tables that it read; behind an Ok these alone; and
+-- opening a ready store leaves at each moment what could be left before it, or the tables that it read; after an Ok these alone; and
 -- whatever it answers, a store that is ready to be opened again
 pub record OpeningLeaves (old new : World) (ts : SeenLevels) : Type 0 where
   pub meanwhile : LeavesOnly old new (IsOldOrRead old ts)

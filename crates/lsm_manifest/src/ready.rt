@@ -5,7 +5,7 @@ use lsm_below::plain_numbers_are_read;
 use lsm_store::Store;
 use lsm_tables::no_image_begins_another;
 
-/// A store is ready to be opened where the names that are read have one possible content each, as behind a crash; whatever a
+/// A store is ready to be opened where the names that are read have one possible content each, as after a crash; whatever a
 /// crash leaves of it has then the tables that reads find.
 pub fn settled_stores_are_ready<S: Store>(_: &S)
     ensures { SettledIsReady S S.world }
@@ -19,7 +19,7 @@ pub fn ready_stores_keep_what_is_named<S: Store>(_: &S)
     ensures good { S.tells → ReadyHasGoodNames S S.world }
 {}
 
-/// While a ready store is opened a crash leaves what it could before, or the tables that were read; behind an Ok these
+/// While a ready store is opened a crash leaves what it could before, or the tables that were read; after an Ok these
 /// alone; and whatever the opening answers, the store is ready to be opened again.
 pub fn openings_leave_what_was_read<S: Store>(_: &S)
     ensures meanwhile { S.tells → OpeningLeavesRead S S.world }

@@ -33,7 +33,7 @@ fn has_room(arena: &mut BytesMut, alloc: Global, len: usize, size: u64) -> bool
     true
 }
 
-/// The entry with its key and value, one behind the other, cut from the chunk. There is room for them. Refused only
+/// The entry with its key and value, one after the other, cut from the chunk. There is room for them. Refused only
 /// for want of memory.
 fn copied(arena: &mut BytesMut, entry: &InternalValue) -> Result<InternalValue, AllocError>
     requires empty { arena.old.items ≡ [] }

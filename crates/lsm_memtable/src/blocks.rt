@@ -179,7 +179,7 @@ fn split_in(
     Ok(())
 }
 
-/// For how many entries a block has room that begins at this place among the blocks. One that begins behind all others is
+/// For how many entries a block has room that begins at this place among the blocks. One that begins after all others is
 /// where keys rise, and fills: it never grows, so that none of its entries moves.
 fn room_for(blocks: &VecDeque<Block>, block: usize) -> usize
     ensures { 0 < result }

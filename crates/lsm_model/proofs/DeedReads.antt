@@ -32,7 +32,7 @@ writes opened (e ∷ es) old new r distinct =
 
 -- ---- a commit that is answered
 
--- what finds a super version finds one behind another in front
+-- what finds a super version finds one after another in front
 pub found_behind : (s : ℕ) (first latest : SuperVersion) (older : List SuperVersion) (sv : SuperVersion) → found_at s latest older ≡ Some sv → (there : SuperVersion) × (found_at s first (latest ∷ older) ≡ Some there)
 found_behind s first latest older sv f =
     elim (eqb s 0) as (λ b. cond b (Some (front latest older)) (lookup s (latest ∷ older)) ≡ Some sv → (there : SuperVersion) × (cond b (Some (front first (latest ∷ older))) (lookup s (first ∷ (latest ∷ older))) ≡ Some there)) [

@@ -60,7 +60,7 @@ fn files_are_spelled(rt: HostRuntime) -> Result<(), Fail> {
     Ok(())
 }
 
-/// What a file with one table has at some places and behind it, and how it is refused.
+/// What a file with one table has at some places and after it, and how it is refused.
 const REFUSALS: [(&[(usize, u8)], &[u8], Told); 5] = [
     (&[(23, 2), (70, 1)], &[], (5, "", 2)),
     (&[(70, 1), (91, 6)], &[], (6, "TreeType", 1)),

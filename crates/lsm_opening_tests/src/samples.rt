@@ -47,7 +47,7 @@ const HEAD: [&[u8]; 6] = [
     b"\x06tables",
 ];
 
-/// A format: its byte, and what stands behind the layout.
+/// A format: its byte, and what stands after the layout.
 pub type Format = (u8, &'static [u8]);
 
 /// Where a log is read from a number on: the section that says so, for 0 and for 1.

@@ -12,7 +12,7 @@ use Rattle.lsm_parts.specs.declared.version.super_version.SuperVersion.{SuperVer
 use Rattle.lsm_parts.specs.History.{SeenHistory, NumbersFall}
 use Rattle.lsm_parts.specs.Maintenance.{KeepsNewer, KeepsVersions}
 
--- the files of all older super versions behind the first n are gone, and beside files of older versions nothing has changed
+-- the files of all older super versions after the first n are gone, and beside files of older versions nothing has changed
 pub record KeepsFiles (tells : Type 0) (h : SeenHistory) (n : ℕ) (old new : World) : Type 0 where
   pub gone : tells → AllByRecursion (λ sv. sv.version.id < h.latest.version.id → new.gives (version_name sv.version.id) ≡ None) (drop n h.older)
   pub keeps : tells → KeepsNewer h.latest.version.id old new

@@ -101,7 +101,7 @@ module _ (levels : Levels) (plain : IsPlain levels) (i : ℕ) (some : 0 < i) (ch
         (λ h. let found = in_stands levels i 0 c h.0 in inl (stands_lies levels i 0 found.0 c found.1))
         (from c there is)
 
-    -- a table behind the window, or before it
+    -- a table after the window, or before it
     ahead : (t w : SeenTable) (p : ℕ) → StandsAt levels (i + 1) 0 p t → p < place → Has (window (run_of levels (i + 1) 0) place count) w → is_below (range t).max (range w).min ≡ true
     ahead t w p st less h =
         let at = in_window w h in

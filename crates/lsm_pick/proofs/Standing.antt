@@ -38,7 +38,7 @@ abbrev pub Precedes : ℕ → ℕ → ℕ → ℕ → Type 0
 Precedes level run other_level other_run = (level < other_level) ⊎ ((level ≡ other_level) × (run < other_run))
 
 -- of a chosen table c and an unchosen t that overlap: where t stands before c, its level's number is below the
--- destination; where it stands behind, its level's number is no less, and not both are 6
+-- destination; where it stands after, its level's number is no less, and not both are 6
 pub record PairAllowed (to c_level c_run t_level t_run : ℕ) : Type 0 where
   pub before : Precedes t_level t_run c_level c_run → t_level < to
   pub behind : Precedes c_level c_run t_level t_run → to ≤ t_level

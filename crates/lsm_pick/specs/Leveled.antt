@@ -25,7 +25,7 @@ cap = 18446744073709551615
 abbrev pub ratio_at : List (ℕ × ℕ) → ℕ → ℕ × ℕ
 ratio_at ratios place = slice_index_or ratios (min place (length ratios - 1)) (10, 1)
 
--- the target of the first level, or of the level some steps behind it
+-- the target of the first level, or of the level some steps after it
 unfoldable pub target_after : LeveledRule → ℕ → ℕ
 target_after rule zero = min (rule.target * rule.threshold) cap
 target_after rule (suc steps) =

@@ -19,7 +19,7 @@ fn key_is_below(left: &UserKey, right: &UserKey) -> bool
     }
 }
 
-/// Bounds of keys, which own them. Where the start is behind the end, no range lies within.
+/// Bounds of keys, which own them. Where the start is after the end, no range lies within.
 ///
 /// # Examples
 ///

@@ -148,7 +148,7 @@ impl Leveled {
         product.min(u128::from(u64::MAX)) as u64
     }
 
-    /// The bytes that a level may hold which stands some levels behind the first full one; a number past
+    /// The bytes that a level may hold which stands some levels after the first full one; a number past
     /// 2^64 - 1 stands there.
     #[tactic(auto, using(crate::proofs::TargetSteps::target_none, crate::proofs::TargetSteps::target_more))]
     pub fn target_after(&self, steps: usize) -> u64

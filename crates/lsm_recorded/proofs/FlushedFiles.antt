@@ -1,4 +1,4 @@
--- What a crash leaves of the files of a tree that is flushed, and what a flush behind a rotation leaves.
+-- What a crash leaves of the files of a tree that is flushed, and what a flush after a rotation leaves.
 use Rattle.std.proofs.Common.{cond, ◌≡◌, ℕ, Bool, true, false, List, [], ◌∷◌, ◌++◌, Option, Some, None, refl, sym, ◌∙◌, subst, inl, inr, ⊎_elim, eqb, nat_lt}
 use Rattle.lsm_below.specs.Members.{IsIn}
 use Rattle.lsm_store.specs.World.{World}
@@ -42,14 +42,14 @@ spent_upholds w v n old new leaves same is =
     subst (λ u. Upholds w u old new) (sym same)
     (subst (Upholds w w old) (sym is) (record { files = λ stored. (stored_spent w (versions_left old) n old.flush stored, ((still_upholds w old leaves).files stored).1); passes = leaves.passes }))
 
--- ---- behind a rotation
+-- ---- after a rotation
 
 found_still : (z b : Bool) (f g x y sv : SuperVersion) (rest : Option SuperVersion) → cond z (Some f) (cond b (Some x) rest) ≡ Some sv → (sv' : SuperVersion) × (cond z (Some g) (cond b (Some y) rest) ≡ Some sv')
 found_still true b f g x y sv rest h = (g, refl)
 found_still false true f g x y sv rest h = (y, refl)
 found_still false false f g x y sv rest h = (sv, h)
 
--- a snapshot finds a super version behind it where it found one before
+-- a snapshot finds a super version after it where it found one before
 rotated_found : (s : ℕ) (old mid : Core) (id : Option ℕ) (sv : SuperVersion) → Rotates old id mid → found_at s (latest_of old) (older_of old) ≡ Some sv → (sv' : SuperVersion) × (found_at s (latest_of mid) (older_of mid) ≡ Some sv')
 rotated_found s old mid None sv t h = subst (λ c. (sv' : SuperVersion) × (found_at s (latest_of c) (older_of c) ≡ Some sv')) (sym t.1) (sv, h)
 rotated_found s old mid (Some id) sv t h =

@@ -123,7 +123,7 @@ all_spared events old new keeps = record {
 }
 
 module _ (opened : List Placed) (least : ℕ) (marks : BTreeMap Bytes Mark) (theory : Soundness) where
-  -- a call that keeps reads behind what it tells keeps what always holds
+  -- a call that keeps reads after what it tells keeps what always holds
   told_keeps : (low low' : ℕ) (old new : Core) (journal journal' es : List Event) → KeepsReads es old new → GoesOn es old new → journal' ≡ journal ++ es → low' ≡ fold floor_after low es → IsRecorded opened least marks low old journal → IsRecorded opened least marks low' new journal' × Stays old new
   told_keeps low low' old new journal journal' es keeps goes told floored h =
       let t = events_recorded opened least marks theory low low' old new journal journal' IsAny IsAnySnapshot es (all_spared es old new keeps) tt goes told floored h in
@@ -142,7 +142,7 @@ module _ (opened : List Placed) (least : ℕ) (marks : BTreeMap Bytes Mark) (the
     flush_recorded w r old new f h =
         told_keeps low low' old new journal journal' es (subst (λ l. KeepsReads l old new) (sym f.1) (law.flushes w f.0 r old new f.2 f.3)) (subst (λ l. GoesOn l old new) (sym f.1) (by_mark w f.0 r old new f.2 f.3)) told floored h
 
-    -- behind a rotation
+    -- after a rotation
     rotated_recorded : (w : ℕ) (id : Option ℕ) (r : Result (Option (ℕ × Registered)) Error) (old new : Core) → FlushesRotated w id r es old new → IsRecorded opened least marks low old journal → IsRecorded opened least marks low' new journal' × Stays old new
     rotated_recorded w id r old new t h =
         let mid = t.0 in

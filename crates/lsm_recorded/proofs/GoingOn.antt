@@ -1,4 +1,4 @@
--- Behind what a compaction tells of itself, the counter is above what it told, and the watermarks of open merges are marked.
+-- After what a compaction tells of itself, the counter is above what it told, and the watermarks of open merges are marked.
 use Rattle.std.proofs.Common.{◌≡◌, ℕ, ◌+◌, ◌≤◌, List, [], ◌∷◌, ◌++◌, Option, Some, None, IsSome, Result, Ok, Err, IfOk, IfErr, OnOk, IsErrOf, inl, inr, ◌⊎◌, ⊎_elim, fold, refl, sym, ap, ◌∙◌, subst, arith, append-nil, append_assoc}
 use Rattle.lsm_below.specs.declared.error.Error.{Error}
 use Rattle.lsm_below.specs.declared.error.Error.TheVariants.{OutOfMemory, Store, CommitUnknown, Unrecoverable, OutOfNumbers, TooManyRuns, AfterCommit}
@@ -29,13 +29,13 @@ use Rattle.lsm_recorded.specs.Recorded.{AreMarked}
 use Rattle.lsm_recorded.proofs.Telling.{IsTold}
 use Rattle.lsm_recorded.proofs.Watermarks.{still_marked, closed_marked, opened_marked}
 
--- behind these events
+-- after these events
 pub record GoesOn (events : List Event) (old new : Core) : Type 0 where
   pub told : IsTold old.seqno events
   pub next : fold next_number_after old.seqno events ≤ new.seqno
   pub marked : (journal : List Event) → AreMarked journal old → AreMarked (journal ++ events) new
 
--- behind a version that was to be installed
+-- after a version that was to be installed
 pub record Settled {T : Type 0} (r : Result T Error) (old new : Core) : Type 0 where
   pub ok : OnOk r (old.seqno + 1 ≤ new.seqno)
   pub after : IsErrOf r AfterCommit → old.seqno + 1 ≤ new.seqno
@@ -277,11 +277,11 @@ ends_go job r events old new e = finishes_go job events old new r e.0 e.2
 
 -- ---- in one call
 
--- nothing is told behind the beginning of a merge that isn't installed
+-- nothing is told after the beginning of a merge that isn't installed
 untold_behind : (job : SeenCompaction) (r : Result Begun Error) (c : Core) (events : List Event) → (r ≡ Ok Installed → ⊥) → (r ≡ Err AfterCommit → ⊥) → TellsBehind (Ok (Job job)) r c events → events ≡ []
 untold_behind job r c events ok after tells = ⊎_elim (λ x. absurd (⊎_elim ok after x.0)) (λ x. x.2) tells
 
--- what a merge tells behind its beginning is what its end tells
+-- what a merge tells after its beginning is what its end tells
 behind_tells : (job : SeenCompaction) (end : Result Finished Error) (r : Result Begun Error) (c : Core) (events : List Event) → r ≡ told_end end → TellsBehind (Ok (Job job)) r c events → TellsMerge end c events
 behind_tells job (Ok Done) r c events is tells = record {
   done = λ h. ⊎_elim (λ x. x.1) (λ x. absurd (x.0 is)) tells;
@@ -309,7 +309,7 @@ completes_go job r events old new completes tells =
     (λ x. finishes_go job events old new x.0 x.1 (behind_tells job x.0 r old events x.3 tells))
     completes
 
--- behind the beginning of a merge, which leaves the counter
+-- after the beginning of a merge, which leaves the counter
 goes_behind : (w : ℕ) (behind : List Event) (old mid new : Core) → mid.seqno ≡ old.seqno → GoesOn (Mark w ∷ []) old mid → GoesOn behind mid new → GoesOn (Mark w ∷ behind) old new
 goes_behind w behind old mid new same first second = record {
   told = subst (λ n. IsTold n behind) same second.told;
@@ -336,7 +336,7 @@ job_counter choice o job old mid b = by_lost old.lost refl
     by_lost (Some v) is = ap (λ (c : Core). c.seqno) (b.uncertain (subst IsSome (sym is) refl))
 
 module _ (law : NotedCompactionsKeepReads) (choice : Choice) (o : Options) (old : Core) where
-  -- where nothing comes behind
+  -- where nothing comes after
   front_goes : (begun : Result Begun Error) (front behind : List Event) (mid new : Core) → BeginsChoice choice o begun old mid → TellsChoice choice o.mvcc_gc_watermark begun old front → behind ≡ [] → new ≡ mid → GoesOn (front ++ behind) old new
   front_goes begun front behind mid new b tells none same =
       subst (λ l. GoesOn (front ++ l) old new) (sym none) (subst (λ c. GoesOn (front ++ []) old c) (sym same) (subst (λ l. GoesOn l old mid) (sym (append-nil front)) (choice_goes law choice o begun front old mid b tells)))

@@ -34,7 +34,7 @@ single_behind : (xs ys : List Entry) → IsSingle (xs ++ ys) → IsSingle ys
 single_behind [] ys h = h
 single_behind (x ∷ xs) ys h = single_behind xs ys h.1
 
--- what stands behind entries in order is in order
+-- what stands after entries in order is in order
 order_behind : (xs ys : List Entry) → AreInOrder (xs ++ ys) → AreInOrder ys
 order_behind xs ys o =
     in_order ys

@@ -1,4 +1,4 @@
--- Behind what a call tells of itself, what always holds of a tree with its journal goes on.
+-- After what a call tells of itself, what always holds of a tree with its journal goes on.
 use Rattle.std.proofs.Common.{◌≡◌, ℕ, ◌≤◌, false, List, [], ◌∷◌, ◌++◌, fold, refl, sym, ap, ◌∙◌, subst, arith, append-nil, append_assoc}
 use Rattle.std.specs.BTreeMap.{BTreeMap}
 use Rattle.std.proofs.lemmas.Grind.{fold-append}
@@ -21,7 +21,7 @@ use Rattle.lsm_recorded.specs.Recorded.{AreMarked, IsRecorded, Stays, StaysBehin
 use Rattle.lsm_recorded.proofs.MarksLemmas.{in_order_push}
 use Rattle.lsm_recorded.proofs.RecordedLemmas.{recorded}
 
--- marks and dropped ranges, and behind them at most an install or a clear under this number
+-- marks and dropped ranges, and after them at most an install or a clear under this number
 abbrev pub IsTold : ℕ → List Event → Type 0
 IsTold n [] = Unit {0}
 IsTold n (Watermark w ∷ es) = IsTold n es
@@ -90,7 +90,7 @@ module _ (opened : List Placed) (least : ℕ) (marks : BTreeMap Bytes Mark) wher
   pub told_floor : (low low' : ℕ) (journal es : List Event) → low ≡ floor journal → low' ≡ fold floor_after low es → low' ≡ floor (journal ++ es)
   told_floor low low' journal es is follows = follows ∙ ap (λ m. fold floor_after m es) is ∙ sym (fold-append floor_after 0 journal es)
 
-  -- a call that leaves reads right behind what it tells keeps what always holds
+  -- a call that leaves reads right after what it tells keeps what always holds
   pub told_recorded : (theory : Soundness) (IsBefore : List Event → Type 0) (IsSpared : ℕ → Type 0) (es : List Event) (low low' : ℕ) (old new : Core) (journal : List Event) → SparesReads IsBefore es IsSpared old new → IsBefore journal → IsTold old.seqno es → fold next_number_after old.seqno es ≤ new.seqno
       → low' ≡ floor (journal ++ es) → AreMarked (journal ++ es) new → IsRecorded opened least marks low old journal → IsRecorded opened least marks low' new (journal ++ es) × ((s : ℕ) → IsSpared s → StaysAt s (state_of [] old) (state_of [] new))
   told_recorded theory IsBefore IsSpared es low low' old new journal spares before told le floored marked r =

@@ -40,11 +40,11 @@ all_on : (journal more : List Event) (ms : List SeenOpenMerge) → Marked journa
 all_on journal more [] h = tt
 all_on journal more (m ∷ ms) h = (marked_on m.settings.watermark journal more h.0, all_on journal more ms h.1)
 
--- behind more events, where merges stay
+-- after more events, where merges stay
 pub still_marked : (old new : Core) (journal more : List Event) → new.merges ≡ old.merges → AreMarked journal old → AreMarked (journal ++ more) new
 still_marked old new journal more same h = subst (λ ms. Marked (journal ++ more) ms.underway) (sym same) (all_on journal more old.merges.underway h)
 
--- behind none
+-- after none
 pub same_marked : (old new : Core) (journal : List Event) → new.merges ≡ old.merges → AreMarked journal old → AreMarked journal new
 same_marked old new journal same h = subst (λ ms. Marked journal ms.underway) (sym same) h
 
@@ -52,7 +52,7 @@ all_without : (journal : List Event) (n : ℕ) (ms : List SeenOpenMerge) → Mar
 all_without journal n [] h = tt
 all_without journal n (m ∷ ms) h = elim (not (m.number == n)) as (λ b. Marked journal (cond b (m ∷ without n ms) (without n ms))) [ true ↦ (h.0, all_without journal n ms h.1) | false ↦ all_without journal n ms h.1 ]
 
--- behind more events, where a merge is closed
+-- after more events, where a merge is closed
 pub closed_marked : (old new : Core) (journal more : List Event) (n : ℕ) → new.merges.underway ≡ without n old.merges.underway → AreMarked journal old → AreMarked (journal ++ more) new
 closed_marked old new journal more n same h = subst (Marked (journal ++ more)) (sym same) (all_on journal more (without n old.merges.underway) (all_without journal n old.merges.underway h))
 
@@ -60,7 +60,7 @@ all_and : (journal : List Event) (ms : List SeenOpenMerge) (m : SeenOpenMerge) �
 all_and journal [] m h is = (is, tt)
 all_and journal (x ∷ ms) m h is = (h.0, all_and journal ms m h.1 is)
 
--- behind the mark of one that is opened
+-- after the mark of one that is opened
 pub opened_marked : (old new : Core) (journal more : List Event) (m : SeenOpenMerge) → new.merges.underway ≡ old.merges.underway ++ m ∷ [] → IsMarkedIn m.settings.watermark (journal ++ more) → AreMarked journal old → AreMarked (journal ++ more) new
 opened_marked old new journal more m is marks h = subst (Marked (journal ++ more)) (sym is) (all_and (journal ++ more) old.merges.underway m (all_on journal more old.merges.underway h) marks)
 

@@ -47,7 +47,7 @@ pub record FlushesNoted (w : ℕ) (r : Result (Option (ℕ × Registered)) Error
   pub marks : MarksFlush w marked r old new
   pub noted : Notes (flush_events w old.seqno marked r) journal journal' pass pass'
 
--- ---- a flush behind a rotation
+-- ---- a flush after a rotation
 
 -- a rotation, and then a flush that is noted
 pub record NotesBehind (w : ℕ) (id : Option ℕ) (r : Result (Option (ℕ × Registered)) Error) (old new : Core) (journal journal' : List JournalEntry) (pass pass' : List (ℕ × JournalEntry)) : Type 0 where

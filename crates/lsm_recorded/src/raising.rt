@@ -55,7 +55,7 @@ fn raise(
 }
 
 /// Raises the marks of the keys of a batch, and notes what each was, up to one that can't be raised. False where the number is too
-/// great, or where a write is out of order, as one is behind another of its key. There is room for the notes.
+/// great, or where a write is out of order, as one is after another of its key. There is room for the notes.
 fn raise_all(
     marks: &mut BTreeMap<MarkedKey, Mark>,
     floor: SeqNo,

@@ -83,7 +83,7 @@ impl<S: Store> Model for Recorded<S> {
     ghost invariant = { λ r. IsRecorded (placed_of r.opened.levels) r.least r.marks r.floor r.core.core r.journal.items };
 }
 
-/// What a get finds, as `TreeState::get`, behind its key, which shares the bytes of the entry that is found, or else those of
+/// What a get finds, as `TreeState::get`, after its key, which shares the bytes of the entry that is found, or else those of
 /// the key that is marked: so a journal keeps no bytes of its own for each read of a key that was ever written.
 fn find<S: Store>(
     alloc: Global,

@@ -95,7 +95,7 @@ fn an_opening_is_refused(rt: HostRuntime) {
     refuse_each(&rt, rt.alloc(), &OVERLAID, 5, 5);
 }
 
-/// Behind a crash the calls of the opening are refused too.
+/// After a crash the calls of the opening are refused too.
 #[test]
 fn an_opening_behind_a_crash_is_refused(rt: HostRuntime) {
     refuse_each(&rt, rt.alloc(), &CRASHED, 16, MOST_CALLS);

@@ -32,7 +32,7 @@ const UNCLEAN: u8 = 101;
 
 const EMPTY: u8 = 102;
 
-/// A new tree with a = x (0), of whose store a call behind the opening is refused.
+/// A new tree with a = x (0), of whose store a call after the opening is refused.
 fn open_with_x(alloc: Global, call: u64, refusal: Refusal) -> Result<Tree, Error> {
     let store = RefusingStore::new(alloc, OPENING.saturating_add(call), refusal);
     match open(alloc, 0, store) {

@@ -28,7 +28,7 @@ enum Turn {
     Wrong,
 }
 
-/// Whether this error may come of this refusal. Behind a commit of unknown outcome all others are refused.
+/// Whether this error may come of this refusal. After a commit of unknown outcome all others are refused.
 pub fn may_tell(error: &Error, refusal: Refusal, was_uncertain: bool) -> bool {
     match (error, refusal) {
         (Error::Unrecoverable, _) => was_uncertain,
@@ -108,7 +108,7 @@ fn call(
     }
 }
 
-/// What is known of two trees behind some calls.
+/// What is known of two trees after some calls.
 #[derive(Clone, Copy)]
 pub struct Known {
     /// No call was refused, so that each answers what a row says.

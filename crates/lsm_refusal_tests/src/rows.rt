@@ -81,7 +81,7 @@ pub const OVERTAKEN: Row = (
     &[Shows("a", 6, Some("3")), Tables(3)],
 );
 
-/// b is written behind the flush, and lost.
+/// b is written after the flush, and lost.
 pub const CRASHED: Row = (
     &[
         (Set("a", "x"), Number(0)),

@@ -1,4 +1,4 @@
-// What a tree shows behind a row.
+// What a tree shows after a row.
 use crate::looks::get;
 use crate::rows::{Look, Turn};
 use crate::steps::{Tree, text};

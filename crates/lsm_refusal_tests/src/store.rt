@@ -44,7 +44,7 @@ impl RefusingStore {
         self.refusal = refusal;
     }
 
-    /// What a crash leaves of it. The call that is to be refused may come behind the crash.
+    /// What a crash leaves of it. The call that is to be refused may come after the crash.
     pub fn crash(&self) -> Result<Option<RefusingStore>, AllocError> {
         Ok(match self.inner.crash(&[])? {
             Some(inner) => Some(RefusingStore {

@@ -99,7 +99,7 @@ fn left_of(player: Player) -> Result<RefusingStore, End> {
     }
 }
 
-/// The trees that are opened behind a crash.
+/// The trees that are opened after a crash.
 fn reopen_both(
     alloc: Global,
     tried: Player,
@@ -120,7 +120,7 @@ fn is_right(alloc: Global, tried: &Tree, kept: &Tree, row: &Row, known: Known) -
     (!is_plain || are_so(alloc, tried, row.2)) && agree(tried, kept, known.is_clean)
 }
 
-/// How a row ended on these trees. What comes of a commit of unknown outcome isn't known behind a crash, but the tree opens.
+/// How a row ended on these trees. What comes of a commit of unknown outcome isn't known after a crash, but the tree opens.
 fn compare(
     alloc: Global,
     tried: &Tree,
@@ -154,7 +154,7 @@ fn end(
     (ended, left)
 }
 
-/// Behind a crash and an opening all is gone that was to go.
+/// After a crash and an opening all is gone that was to go.
 fn behind(played: Result<Known, End>) -> Result<Known, End> {
     match played {
         Ok(known) => Ok(Known {

@@ -73,7 +73,7 @@ pub fn every_image_is_a_calls<S: Store, V: Finding, R>(_: &S, _: &V, _: &R)
     ensures { (n : ℕ) → EveryImageIsACalls R (V.shows n) S.world }
 {}
 
-/// Behind each call reads are right where they were before the first, over any store.
+/// After each call reads are right where they were before the first, over any store.
 pub fn reads_stay_right<R>(_: &R)
     ensures { ReadsStayRight R }
 {

@@ -338,7 +338,7 @@ module _ {F : Type 0} (world : F → World) where
   causes_more [] t was mid is same c = (is, from_same (ReplyBlames t.reply) (world was) (world mid) (world is) same c, refl)
   causes_more (x ∷ ts) t was mid is each c = (each.0, each.1, causes_more ts t each.0 mid is each.2 c)
 
-  -- before them and behind them no call failed
+  -- before them and after them no call failed
   pub causes_between : (ts : List Told) (was first last is : F) → (world first).failures ≡ (world was).failures → (world is).failures ≡ (world last).failures → EachHasCause world ts first last → EachHasCause world ts was is
   causes_between [] was first last is before behind same = behind ∙ same ∙ before
   causes_between (t ∷ ts) was first last is before behind each =

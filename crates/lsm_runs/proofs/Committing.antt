@@ -300,12 +300,12 @@ waits_same choice o job old new b = by_lost old.lost refl
     by_lost None certain = by_reason certain (reason_of choice old) refl
     by_lost (Some v) is = let some : IsSome old.lost = subst IsSome (sym is) refl in seqno_of new old (b.uncertain some)
 
--- behind the mark of its beginning a merge is installed, or not
+-- after the mark of its beginning a merge is installed, or not
 waited_numbers : (job : SeenCompaction) (w : ℕ) (r : Result Begun Error) (events behind : List Event) (mid new : Core) → events ≡ Mark w ∷ behind → TellsBehind (Ok (BegunMerge job)) r mid behind → Counts Installed r mid.seqno new.seqno → UsesNumbers Draws events mid.seqno new.seqno
 waited_numbers job w r events behind mid new is (inl t) c = drawn events (Mark w ∷ []) (Install mid.seqno) mid.seqno new.seqno (is ∙ ap (λ es. Mark w ∷ es) t.1) (tt, tt) (inl refl) (c.next t.0)
 waited_numbers job w r events behind mid new is (inr t) c = unnumbered events (Mark w ∷ []) mid.seqno new.seqno (is ∙ ap (λ es. Mark w ∷ es) t.2) (tt, tt) c.near
 
--- nothing comes behind its beginning
+-- nothing comes after its beginning
 alone_numbers_of : (events front behind : List Event) (old mid new : Core) → events ≡ front ++ behind → behind ≡ [] → new ≡ mid → UsesNumbers Draws front old.seqno mid.seqno → UsesNumbers Draws events old.seqno new.seqno
 alone_numbers_of events front behind old mid new is none same u =
     subst (λ es. UsesNumbers Draws es old.seqno new.seqno) (sym (is ∙ ap (λ es. front ++ es) none ∙ append-nil front))

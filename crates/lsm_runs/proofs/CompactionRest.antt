@@ -42,7 +42,7 @@ KeepsOpenWork old new = (new.flush ≡ old.flush) × (new.merges ≡ old.merges)
 pub kept_by : (old mid new : Core) → new ≡ mid → KeepsOpenWork old mid → KeepsOpenWork old new
 kept_by old mid new e k = subst (KeepsOpenWork old) (sym e) k
 
--- a merge of this job is open behind the others
+-- a merge of this job is open after the others
 pub record OpensJob (job : SeenCompaction) (old new : Core) : Type 0 where
   pub ids : List ℕ
   pub settings : MergeSettings

@@ -150,7 +150,7 @@ module _ (theory : Soundness) (opened : List Entry) (start : Map) (journal : Lis
     flush_deeds w (Refused x) events t = noted_deeds w (Err x) events t
     flush_deeds w reply events t = absurd t
 
--- ---- behind a rotation
+-- ---- after a rotation
 
 module _ (theory : Soundness) (opened : List Entry) (start : Map) (journal : List Event) (notes : List Note) (old new : Core) (right : IsRight opened start journal old) where
   -- the memtables that are sealed then

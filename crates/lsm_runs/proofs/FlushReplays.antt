@@ -21,7 +21,7 @@ use Rattle.lsm_runs.specs.Flushing.{TakesBegin, TakesRun, TakesTables, TakesRegi
 use Rattle.lsm_runs.specs.Runs.{without_low_reads}
 use Rattle.lsm_runs.proofs.Keeping.{AreNoReads}
 
--- no event is a read, and reads are right behind them where they were
+-- no event is a read, and reads are right after them where they were
 abbrev pub KeepsRun : List Event → Core → Core → Type 0
 KeepsRun events old new = AreNoReads events × KeepsReads events old new
 
@@ -66,7 +66,7 @@ module _ (theory : Soundness) where
   rotated_stays opened start journal old None mid r order h s = subst (λ c. StaysAt s (state_of [] old) (state_of [] c)) (sym r.1) (theory.spares.same s (state_of [] old) (state_of [] old) refl refl refl)
   rotated_stays opened start journal old (Some id) mid r order h s = theory.spares.step opened start s (state_of journal old) (Rotated old.next_memtable) (state_of journal mid) (r.3 opened journal) order tt h
 
-  -- what keeps reads behind a rotation keeps them with it
+  -- what keeps reads after a rotation keeps them with it
   rotated_keeps : (events : List Event) (old : Core) (id : Option ℕ) (mid new : Core) → Rotates old id mid → KeepsReads events mid new → KeepsReads events old new
   rotated_keeps events old id mid new r k = record {
     right = λ opened start journal order h. k.right opened start journal order (rotated_holds opened start journal old id mid r (theory.kept.front opened journal events order) h);

@@ -121,7 +121,7 @@ module _ (laws : NotedCompactionsKeepReads) (journal events : List Event) (was i
   job_marked strategies FinishCompaction reply old new t m = finished_marked reply old new t m
   job_marked strategies AbandonCompaction reply old new t m = given_marked reply old new t m
 
--- the same jobs, behind a longer journal
+-- the same jobs, after a longer journal
 pub still_marked : (laws : NotedCompactionsKeepReads) (journal events : List Event) (was is : ℕ → Option Job) → is ≡ was → AreMarked journal was → AreMarked (journal ++ events) is
 still_marked laws journal events was is same m n = stays_marked laws journal events (was n) (is n) (ap (λ (jobs : ℕ → Option Job). merge_in (jobs n)) same) (m n)
 

@@ -1,4 +1,4 @@
--- What a call leaves of reads, where it is told behind a journal.
+-- What a call leaves of reads, where it is told after a journal.
 use Rattle.std.proofs.Common.{◌≡◌, ℕ, List, ◌++◌, refl, sym, ap, ◌∙◌, subst}
 use Rattle.lsm_below.specs.Entries.{Entry}
 use Rattle.lsm_model.specs.Journal.{Event, Map, InOrder}
@@ -19,7 +19,7 @@ use Rattle.lsm_runs.proofs.ReadReplays.{Sound}
 abbrev pub AreNoReads : List Event → Type 0
 AreNoReads events = (opened : List Entry) → without_low_reads opened events ≡ events
 
--- no event is a read, and behind such a journal reads are right behind them where they were
+-- no event is a read, and after such a journal reads are right after them where they were
 pub record KeepsAfter (journal events : List Event) (old new : Core) : Type 0 where
   pub unread : AreNoReads events
   pub spares : (opened : List Entry) → SparesReads (λ before. before ≡ without_low_reads opened journal) events (AreSparedBy events) old new
@@ -33,7 +33,7 @@ pub record KeepLaws : Type 0 where
 
 -- ---- ways to know it
 
--- behind any journal
+-- after any journal
 pub keeps_any : (journal events : List Event) (old new : Core) → AreNoReads events → SparesReads IsAny events (AreSparedBy events) old new → KeepsAfter journal events old new
 keeps_any journal events old new none k = record {
   unread = none;

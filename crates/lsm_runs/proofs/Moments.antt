@@ -150,7 +150,7 @@ module _ (laws : KeepLaws) (strategies : Strategies) (opened : List Entry) (star
   places (x ∷ xs) (t ∷ ts) past old (mid ∷ points) = let next = after opened past (outcome_of x t old.stage) in place_at next mid ∷ places xs ts next mid points
   places xs ts past old points = []
 
-  -- one step, behind a journal whose events that count are these
+  -- one step, after a journal whose events that count are these
   step_at : (x : Call) (t : Told) (journal before : List Event) (notes : List Note) (old new : Stage) → without_low_reads opened journal ≡ before → (x ≡ ClearActiveMemtable → ⊥) → AreMarked journal old.jobs → Takes strategies x t.reply t.entries old new
       → IsRight opened start before old.core → InOrder opened (before ++ without_low_reads opened t.entries) → HasDeeds opened before notes (without_low_reads opened t.entries) (notes_of x t.reply old before) old.core new.core
   step_at x t journal before notes old new e plain marked takes =

@@ -80,7 +80,7 @@ module _ (old new : Core) (certain : old.lost ≡ None) (makes : MakesOne old.hi
   same_version v w (inr a) (inl b) same = absurd (apart w v b a (sym same))
   same_version v w (inr a) (inr b) same = b ∙ sym a
 
-  -- those before the step and behind it
+  -- those before the step and after it
   pub made_apart : AreApart (versions_left old ++ versions_left new)
   made_apart v w i j same = same_version v w (is_one v i) (is_one w j) same
 

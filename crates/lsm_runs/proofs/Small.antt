@@ -148,7 +148,7 @@ run_small_from strategies (x ∷ xs) (t ∷ ts) old new r = each_append IsSmall 
 pub run_small : (strategies : Strategies) (xs : List Call) (ts : List Told) (old new : Core) → RanToEnd strategies xs ts old new → AllByRecursion IsSmall (journal_of ts)
 run_small strategies xs ts old new r = run_small_from strategies xs ts (at_first old) r.0 r.1
 
--- ---- of the first so many outcomes, behind a journal
+-- ---- of the first so many outcomes, after a journal
 
 module _ (opened : List Entry) where
   after_small : (outcomes : List (out.Told Reply)) (past : Past) → AllByRecursion IsSmall past.journal → AllByRecursion IsSmall (out.journal_of outcomes) → AllByRecursion IsSmall (after_all opened past outcomes).journal

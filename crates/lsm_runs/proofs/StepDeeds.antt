@@ -13,7 +13,7 @@ use Rattle.lsm_state.specs.Core.{Core, state_of, latest_of}
 use Rattle.lsm_state.specs.Deeds.{saved_of, HasOrder, IsNoDeed, IsMarkDeed}
 use Rattle.lsm_run_model.proofs.Composing.{distinct_behind}
 
--- behind this journal and beside these notes, deeds of the theory are done which tell these events and note this
+-- after this journal and beside these notes, deeds of the theory are done which tell these events and note this
 abbrev pub HasDeeds : List Entry → List Event → List Note → List Event → List Note → Core → Core → Type 0
 HasDeeds opened journal notes events noted old new = (ds : List Deed) × Deeds opened (saved_of journal notes old) ds (saved_of (journal ++ events) (noted ++ notes) new)
 
@@ -98,14 +98,14 @@ module _ (theory : Soundness) (opened : List Entry) (start : Map) where
   pub order_of : (journal : List Event) (c : Core) → Holds opened start (state_of journal c) → HasOrder c
   order_of journal c holds = (theory.right.reads opened start (state_of journal c) holds).ordered.0
 
-  -- behind deeds all is right as before them
+  -- after deeds all is right as before them
   pub right_behind : (journal : List Event) (notes : List Note) (events : List Event) (noted : List Note) (old new : Core) → HasDeeds opened journal notes events noted old new → InOrder opened (journal ++ events) → IsRight opened start journal old → IsRight opened start (journal ++ events) new
   right_behind journal notes events noted old new d order r = record {
     holds = theory.kept.deeds opened start (saved_of journal notes old) d.0 (saved_of (journal ++ events) (noted ++ notes) new) d.1 order r.holds;
     distinct = distinct_behind opened d.0 (saved_of journal notes old) (saved_of (journal ++ events) (noted ++ notes) new) d.1 r.distinct;
   }
 
--- deeds behind deeds
+-- deeds after deeds
 pub then : (opened : List Entry) (journal : List Event) (notes : List Note) (first second : List Event) (noted more : List Note) (old mid new : Core)
     → HasDeeds opened journal notes first noted old mid → HasDeeds opened (journal ++ first) (noted ++ notes) second more mid new → HasDeeds opened journal notes (first ++ second) (more ++ noted) old new
 then opened journal notes first second noted more old mid new d e =

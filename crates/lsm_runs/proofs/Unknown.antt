@@ -201,7 +201,7 @@ module _ {F : Type 0} (strategies : Strategies) where
   stops (x ∷ xs) [] old new was is r = absurd r
   stops (x ∷ xs) (t ∷ ts) old new was is r = (r.0, r.1, r.2, whole xs ts r.0 new r.1 is r.4, stops xs ts r.0 new r.1 is r.4)
 
-  -- what is open behind the steps is given up
+  -- what is open after the steps is given up
   run_stops : (xs : List Step) (ts : List Told) (old : Core) (last : Stage) (new : Core) (was is : F) → RanUnknown strategies xs ts (at_first old) last was is → Closes last.core new → RunStops strategies xs ts was is old new
   run_stops xs ts old last new was is r closes =
       (λ some. let u = whole xs ts (at_first old) last was is r some in (u.0, ap (λ (c : Core). c.lost) closes.rest ∙ u.1), (last, stops xs ts (at_first old) last was is r))

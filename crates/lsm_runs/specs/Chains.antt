@@ -24,7 +24,7 @@ pub record Point (F : Type 0) : Type 0 where
 abbrev pub point : {F : Type 0} → Seen F → BTreeMap ℕ (Option Job) → Point F
 point s slots = record { store = s.store; stage = beside s.core slots }
 
--- what a step leaves of the files: those of its trees, also while nothing is done behind it; where it touches no store, that store, and so
+-- what a step leaves of the files: those of its trees, also while nothing is done after it; where it touches no store, that store, and so
 -- where the outcome of a commit is unknown. And its reply blames the store only where a call of it failed meanwhile
 pub record KeepsFiles {F : Type 0} (world : F → World) (x : Step) (reply : Reply) (was is : F) (old new : Core) : Type 0 where
   pub upholds : Upholds (world was) (world is) old new

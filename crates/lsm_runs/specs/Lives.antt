@@ -38,7 +38,7 @@ abbrev pub AnyNumberOfLives : {F : Type 0} → (F → World) → Type 0
 AnyNumberOfLives world = ManyLives Reply AreSteps IsReady (Reopens (2 ^ 63)) world
 
 -- A ready store that shows the map was being opened when a crash came, or when the process was killed: what the opening leaves at each moment,
--- whatever it was to answer, is a life that ended in its opening. `TreeState::open` says so much of the store behind it, by `opens`.
+-- whatever it was to answer, is a life that ended in its opening. `TreeState::open` says so much of the store after it, by `opens`.
 abbrev pub OpeningsAreLives : {F : Type 0} → (F → World) → Type 0
 OpeningsAreLives {F} world = (was is : F) (m : Map) (end : End F) → IsReady (world was) → Reopens (2 ^ 63) (world was).gives m → EachShows (Reopens (2 ^ 63)) (world was) → LeavesStanding (world was) (world is) → EndsIn world (world was) (world is) end
     → OneLife Reply AreSteps IsReady (Reopens (2 ^ 63)) world m was end
@@ -54,7 +54,7 @@ pub record LivedSo {F : Type 0} (world : F → World) (opened : List Entry) (sta
   pub answered : life.answered ≡ many
 
 -- The first so many of some steps, in plain use and in order, are such a life, however it ended: by a crash in the steps that hadn't been
--- answered or after them, or because the process was killed in the last one of them or after it. Behind each step there is a store.
+-- answered or after them, or because the process was killed in the last one of them or after it. After each step there is a store.
 abbrev pub StepsAreLives : {F : Type 0} → (F → World) → (opened : List Entry) (start : Map) → List Step → List (out.Told Reply) → F → List F → Type 0
 StepsAreLives {F} world opened start steps told first stores = (many answered : ℕ) (end : End F) →
     let outcomes = take many told in
@@ -68,7 +68,7 @@ told_of o = record { reply = o.reply; entries = o.entries }
 
 -- A tree was opened on a store that stands for a map, and took steps, which had these outcomes: the first so many of them are a life.
 pub record Lives {F : Type 0} (world : F → World) (opened : List Entry) (m : Map) (steps : List Step) (outcomes : List (out.Told Reply)) (was is : F) : Type 0 where
-  -- the stores behind opening, and behind each step
+  -- the stores after opening, and after each step
   pub first : F
   pub stores : List F
   pub ends : last_of first stores ≡ is

@@ -29,7 +29,7 @@ abbrev pub opened_in : Core → List Entry
 opened_in c = held (latest_of c).tables
 
 -- A tree was opened with this configuration, its counters just above what was found, or where the configuration says; and it took steps with
--- these outcomes, behind which it is this one.
+-- these outcomes, after which it is this one.
 pub record OpensAndRuns (strategies : Strategies) (config : Config) (steps : List Step) (told : List Told) (new : Core) : Type 0 where
   pub first : Core
   pub opened : first ≡ opened_core (raised (capped (above (found_entries first))) config) first.history.latest.version first.next_table
@@ -53,7 +53,7 @@ pub record LivesOn {F : Type 0} (world : F → World) (strategies : Strategies) 
   pub right : RunIsRight strategies steps told old new
   pub in_order : RunIsInOrder strategies steps told old new
   pub rises : RunRises steps told old
-  -- behind a commit of unknown outcome none called the store
+  -- after a commit of unknown outcome none called the store
   pub unknown : RunStops strategies steps told first is old new
   -- what stands at each moment, and how calls go on
   pub moments : RunHasMoments world strategies steps told (record { store = first; stage = at_first old }) is new

@@ -22,7 +22,7 @@ abbrev pub sealed_note : Option ℕ → List Event → List Note
 sealed_note None journal = []
 sealed_note (Some id) journal = SealedAt id (length journal) ∷ []
 
--- the memtables that a flush takes behind a rotation, from the newest
+-- the memtables that a flush takes after a rotation, from the newest
 abbrev pub sealed_behind : Option ℕ → Core → List ℕ
 sealed_behind None c = sealed_ids c
 sealed_behind (Some id) c = id ∷ sealed_ids c
@@ -47,7 +47,7 @@ abbrev pub lost_note : Error → Core → List Event → List Note
 lost_note CommitUnknown c journal = ClearLost c.seqno (length journal) ∷ []
 lost_note other c journal = []
 
--- what a step notes behind a journal, newest first
+-- what a step notes after a journal, newest first
 abbrev pub alone_notes : Step → Reply → Core → List Event → List Note
 alone_notes RotateMemtable (Sealed id) c journal = sealed_note id journal
 alone_notes (Flush w) (Flushed a) c journal = flushed_note (sealed_ids c) a

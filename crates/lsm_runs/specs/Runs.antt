@@ -139,7 +139,7 @@ Ran strategies (x ∷ xs) (t ∷ ts) old new = (mid : Stage) × Takes strategies
 Ran strategies [] (t ∷ ts) old new = ⊥
 Ran strategies (x ∷ xs) [] old new = ⊥
 
--- they do so from free slots, and what is open behind them is given up
+-- they do so from free slots, and what is open after them is given up
 abbrev pub RanToEnd : Strategies → List Step → List Told → Core → Core → Type 0
 RanToEnd strategies steps told old new = (last : Stage) × Ran strategies steps told (at_first old) last × Closes last.core new
 

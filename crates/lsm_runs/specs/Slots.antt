@@ -83,7 +83,7 @@ KeepsOpen start s = ((s.core.flush ≡ start) × IfSome start (λ f. WaitsFor f 
 abbrev pub HasJob : SeenOpenMerge → (ℕ → Option Job) → Type 0
 HasJob m jobs = (n : ℕ) × (job : SeenCompaction) × (merge_in (jobs n) ≡ Some job) × IsMergeOf job m
 
--- the merges that were open at the start are so still, and behind them stand those whose jobs wait, which have later numbers
+-- the merges that were open at the start are so still, and after them stand those whose jobs wait, which have later numbers
 pub record KeepsMerges (start : SeenMerges) (s : Stage) : Type 0 where
   pub own : List SeenOpenMerge
   pub underway : s.core.merges.underway ≡ start.underway ++ own

@@ -18,7 +18,7 @@ RanUnknown {F} strategies (x ∷ xs) (t ∷ ts) old new was is = (mid : Stage) �
 RanUnknown strategies [] (t ∷ ts) old new was is = ⊥
 RanUnknown strategies (x ∷ xs) [] old new was is = ⊥
 
--- behind each step the whole rest of a run leaves it so
+-- after each step the whole rest of a run leaves it so
 abbrev pub StopsBehind : {F : Type 0} → Strategies → List Step → List Told → Stage → Stage → F → F → Type 0
 StopsBehind strategies [] [] old new was is = (new ≡ old) × (is ≡ was)
 StopsBehind {F} strategies (x ∷ xs) (t ∷ ts) old new was is = (mid : Stage) × (store : F) × Takes strategies x t.reply t.entries old mid × StaysUnknown store is mid.core new.core × StopsBehind strategies xs ts mid new store is

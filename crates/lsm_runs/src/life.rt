@@ -56,7 +56,7 @@ pub fn live<S: Store>(
     ensures ran { IfOk result (λ r. OpensAndRuns (strategies_of (λ b. may_choose b) (λ b. may_refuse b) strategies.now) config (take (length r.1.outcomes.items) steps.now) r.1.outcomes.items r.0.core) }
     // A life, however it ends.
     ensures lives { S.tells → IsReady (S.world store) → (m : Map) → StandsForMap (S.world store).gives m → IfOk result (λ r. LivesInOrder S.world m (take (length r.1.outcomes.items) steps.now) r.1.outcomes.items store r.0.store) }
-    // The whole of what `run` says, behind what opening left.
+    // The whole of what `run` says, after what opening left.
     ensures lives_on { S.tells → IsReady (S.world store) → (m : Map) → StandsForMap (S.world store).gives m → IfOk result (λ r. LivesOn S.world (strategies_of (λ b. may_choose b) (λ b. may_refuse b) strategies.now) m (take (length r.1.outcomes.items) steps.now) r.1.outcomes.items r.0.store r.0.core) }
     // Refused, it leaves the store ready to be opened again, and meanwhile a crash what it could before, or the tables that
     // were read.

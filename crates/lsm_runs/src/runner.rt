@@ -376,12 +376,12 @@ pub fn run<S: Store>(
     ensures merges { state.new.core.merges.underway ≡ state.old.core.merges.underway }
     // What a crash leaves at each moment, along a chain of stores, after whatever was called before: inside a step it is a
     // beginning of the calls up to and with it. Calls may go on from there. What each step notes follows from its kind and
-    // its reply, and behind each step the store is ready to be opened again.
+    // its reply, and after each step the store is ready to be opened again.
     ensures moments { S.tells → RunHasMoments S.world (strategies_of (λ b. may_choose b) (λ b. may_refuse b) strategies.now) (take (length result.outcomes.items) steps.now) result.outcomes.items (record { store = state.old.store; stage = at_first state.old.core }) state.new.store state.new.core }
     ensures stored { S.tells → StaysStored (S.world state.old.store) (S.world state.new.store) state.old.core state.new.core }
     // Names that are none of the tree's are as they were, also in what a crash meanwhile leaves.
     ensures passes { S.tells → Passes (S.world state.old.store) (S.world state.new.store) }
-    // Behind a commit of unknown outcome no step calls the store.
+    // After a commit of unknown outcome no step calls the store.
     ensures unknown { RunStops (strategies_of (λ b. may_choose b) (λ b. may_refuse b) strategies.now) (take (length result.outcomes.items) steps.now) result.outcomes.items state.old.store state.new.store state.old.core state.new.core }
     // The store is blamed only where a call of it failed.
     ensures causes { EachHasCause S.world result.outcomes.items state.old.store state.new.store }

@@ -230,8 +230,8 @@ pub enum Reply {
     /// Of a job that is to be begun: another one waits in the slot. Nothing changed.
     SlotInUse,
     /// The step was refused. It changed nothing, but that a flush, a compaction or a clear may have used numbers and ids, a
-    /// compaction noted its watermark, and a job that was to be registered or to end is spent; behind `AfterCommit` a compaction is
-    /// installed, behind `CommitUnknown` the tree is uncertain.
+    /// compaction noted its watermark, and a job that was to be registered or to end is spent; after `AfterCommit` a compaction is
+    /// installed, after `CommitUnknown` the tree is uncertain.
     Refused(Error),
 }
 

@@ -60,7 +60,7 @@ pub(crate) enum Call {
     Insert(&'static str, &'static str, SeqNo),
     Key(Key, &'static str, SeqNo),
     At(At, SeqNo),
-    /// Behind a key, up to another one.
+    /// After a key, up to another one.
     Between(&'static str, &'static str, SeqNo),
     /// All keys, by their bounds.
     All(SeqNo),

@@ -1,4 +1,4 @@
-// Clears as steps: what comes too late behind one, and what is forgotten.
+// Clears as steps: what comes too late after one, and what is forgotten.
 use crate::calls::{At, Bare, Call, Compact, Key};
 use crate::rows::{FLUSHED_0, Note, Row, run_rows};
 use crate::strategies::{FIRST_MOVED, MAJOR};

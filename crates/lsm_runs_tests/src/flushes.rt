@@ -35,7 +35,7 @@ const JOB: [Row; 15] = [
     ),
 ];
 
-/// Flushes in one call: of the sealed memtable, of the active one, and of nothing; and what is counted behind them.
+/// Flushes in one call: of the sealed memtable, of the active one, and of nothing; and what is counted after them.
 const ONE_CALL: [Row; 11] = [
     (Call::At(At::SetMoment, 5), "Done", &[]),
     (Call::Set(&[("a", "x")]), "Number(0)", &[Note::Write(0)]),

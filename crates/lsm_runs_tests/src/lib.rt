@@ -6,7 +6,7 @@
 //! | `reads` | reads of one key and of many, and each kind of step that reads |
 //! | `flushes` | flushes in one call, and jobs that wait in their slots |
 //! | `compactions` | compactions in one call, and merges that wait in slots |
-//! | `clears` | clears, and what comes too late behind one |
+//! | `clears` | clears, and what comes too late after one |
 //! | `lives` | a crash, and the life that it begins |
 //! | `calls` | steps as rows of a table |
 //! | `rows` | a table of calls, of what each answers and of what it notes |

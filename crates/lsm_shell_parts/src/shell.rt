@@ -90,7 +90,7 @@ where
     told.unwrap_or(FAULT)
 }
 
-/// The arguments behind `--quiet`, and whether that stands before them.
+/// The arguments after `--quiet`, and whether that stands before them.
 fn split_quiet(arguments: Option<&[String]>) -> (bool, Option<&[String]>) {
     match arguments {
         Some([first, rest @ ..]) if first.as_str() == QUIET => (true, Some(rest)),

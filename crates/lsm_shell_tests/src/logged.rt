@@ -11,7 +11,7 @@ use std::test::Fail;
 use std::thread::Threads;
 use std::time::Clock;
 
-/// What was answered is there behind a crash, also at older snapshots, and numbers go on behind it.
+/// What was answered is there after a crash, also at older snapshots, and numbers go on after it.
 const KEPT: [Row; 10] = [
     (b"put a x", b"ok 0"),
     (b"crash", b"crashed"),
@@ -25,7 +25,7 @@ const KEPT: [Row; 10] = [
     (b"get a 1", b"value x"),
 ];
 
-/// A flush passes records, and those behind it count.
+/// A flush passes records, and those after it count.
 const FLUSHED_BETWEEN: [Row; 8] = [
     (b"put a x", b"ok 0"),
     (b"flush 0", b"flushed 50 installed"),

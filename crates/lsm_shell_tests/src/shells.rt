@@ -108,7 +108,7 @@ const CLOSED: [Row; 9] = [
     (b"reopen", b"opened 0"),
 ];
 
-/// Behind a clear nothing is read, but at the snapshots that aren't above its number.
+/// After a clear nothing is read, but at the snapshots that aren't above its number.
 const CLEARED: [Row; 14] = [
     (b"clear", b"cleared 0"),
     (b"put a x", b"ok 1"),

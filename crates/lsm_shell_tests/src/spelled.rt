@@ -1,4 +1,4 @@
-// Each byte at each place of a line, and behind it.
+// Each byte at each place of a line, and after it.
 use crate::shells::{prints, push_line};
 use std::alloc::{AllocError, Global};
 use std::test::Fail;
@@ -29,7 +29,7 @@ fn may_have(last: Last, byte: u8) -> bool {
     }
 }
 
-/// Whether a line with this byte at a place is one of its kind: the last place and the one behind it are its last word's.
+/// Whether a line with this byte at a place is one of its kind: the last place and the one after it are its last word's.
 fn is_of_kind(line: &[u8], last: Last, place: usize, byte: u8) -> bool {
     match line.get(place) {
         Some(found) if place.saturating_add(1) < line.len() => *found == byte,
@@ -37,7 +37,7 @@ fn is_of_kind(line: &[u8], last: Last, place: usize, byte: u8) -> bool {
     }
 }
 
-/// Appends a line with another byte at a place, which may be the one behind it.
+/// Appends a line with another byte at a place, which may be the one after it.
 fn push_changed(text: &mut Vec<u8>, line: &[u8], place: usize, byte: u8) -> Result<(), AllocError> {
     text.extend_from_slice(line.get(..place).unwrap_or_default())?;
     text.push(byte)?;
@@ -47,7 +47,7 @@ fn push_changed(text: &mut Vec<u8>, line: &[u8], place: usize, byte: u8) -> Resu
     )
 }
 
-/// Appends what that prints. A line end makes two lines: only what stands before the place behind a line is of its kind.
+/// Appends what that prints. A line end makes two lines: only what stands before the place after a line is of its kind.
 fn push_printed(text: &mut Vec<u8>, row: &Line, place: usize, byte: u8) -> Result<(), AllocError> {
     let (line, last, printed) = *row;
     if byte == b'\n' {

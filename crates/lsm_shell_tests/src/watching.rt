@@ -23,7 +23,7 @@ compaction: a tree of 2 entries, 2 tables, 0 MB
 writing tables: 1, 0 MB
 ";
 
-/// A number that depends on each of these bytes, behind others.
+/// A number that depends on each of these bytes, after others.
 fn mixed(start: u64, bytes: &[u8]) -> u64 {
     let mut sum = start;
     for byte in bytes {
@@ -71,7 +71,7 @@ where
     status == 0 && told.get() == mixed(0, text)
 }
 
-/// The folder, behind `--quiet` or not.
+/// The folder, after `--quiet` or not.
 fn arguments(alloc: Global, is_quiet: bool) -> Result<Vec<String>, AllocError> {
     let mut words = Vec::new(alloc);
     if is_quiet {

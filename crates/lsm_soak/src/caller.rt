@@ -9,7 +9,7 @@ use std::sync::Wait;
 use std::thread;
 use std::time::{Clock, Duration};
 
-/// How many milliseconds a writer waits behind a call, and each of the others.
+/// How many milliseconds a writer waits after a call, and each of the others.
 const SHORT: u64 = 1;
 
 const LONG: u64 = 30;
@@ -90,7 +90,7 @@ impl<R: Wait + Clock, S: Store> Caller<'_, R, S> {
         self.end(log, number, SHORT)
     }
 
-    /// Whether a write is read at the snapshot behind it, which may be gone.
+    /// Whether a write is read at the snapshot after it, which may be gone.
     fn reads(&self, batch: &Batch, snapshot: SeqNo) -> Result<bool> {
         let key = batch.second_key(self.alloc)?;
         match self.tree.get(self.rt, key.as_slice(), snapshot) {

@@ -2,15 +2,15 @@
 //!
 //! `lsm_soak FOLDER SESSION TURNS` opens the tree of FOLDER and gives twelve callers so many turns each. Eight write the same
 //! keys and read them back, one flushes, one clears and two compact. Each notes its calls in a file of its own beside the
-//! folder, from `FOLDER.0` to `FOLDER.11`: a line before a call, and one behind it. SESSION is a part of each value, so that no
+//! folder, from `FOLDER.0` to `FOLDER.11`: a line before a call, and one after it. SESSION is a part of each value, so that no
 //! two sessions write the same.
 //!
-//! | Line | Before | Behind |
+//! | Line | Before | After |
 //! |-|-|-|
 //! | `set N V` | both keys of a pair, `aN` and `bN`, are set to V | `ok` and the number of the write |
 //! | `del N` | both are removed | the same |
 //! | `flush S` | a flush of all that is visible at S | `ok S` |
-//! | `clear S` | a clear behind all that is visible at S | `ok` and the number of the clear |
+//! | `clear S` | a clear after all that is visible at S | `ok` and the number of the clear |
 //! | `compact S` | a merge of all tables, at watermark S | `ok S` |
 //!
 //! `lsm_soak FOLDER` prints what the tree of FOLDER shows, a line for each key, as `b"a0" b"s-7-100"`.

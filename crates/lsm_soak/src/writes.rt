@@ -63,7 +63,7 @@ impl Batch {
         name_key(alloc, 'b', self.pair)
     }
 
-    /// Whether this is what is read behind it.
+    /// Whether this is what is read after it.
     pub fn is_read(&self, found: Option<UserKey>) -> bool {
         match (&self.value, found) {
             (Some(value), Some(found)) => found.as_slice() == value.as_bytes(),

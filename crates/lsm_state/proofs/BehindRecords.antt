@@ -1,4 +1,4 @@
--- Writes behind a record.
+-- Writes after a record.
 use Rattle.std.proofs.Common.{◌≡◌, ◌⊎◌, ⊎_elim, inl, inr, ℕ, ◌+◌, ◌∷◌, List, Option, Some, None, Result, Ok, Err, IsErrOf, IfSome, max, option_to_list, refl, sym, ap, ◌∙◌, subst}
 use Rattle.lsm_below.specs.Keys.{Bytes}
 use Rattle.lsm_below.specs.declared.error.Error.{Error}

@@ -46,12 +46,12 @@ no_memory told = ⊎_elim (λ h. cc h) (λ later. ⊎_elim (λ h. cc h) (λ h. c
 pub no_way : BlamesStore Unrecoverable → ⊥
 no_way told = ⊎_elim (λ h. cc h) (λ later. ⊎_elim (λ h. cc h) (λ h. cc h) later) told
 
--- ---- files that are removed behind a refusal
+-- ---- files that are removed after a refusal
 
 pub removes_then : (first next : ℕ) (old mid new : World) → min old.failures (2 ^ 64 - 1) ≤ mid.failures → RemovesDrawn first next mid new → RemovesDrawn first next old new
 removes_then first next old mid new rises removes = ⊎_elim (λ gone. inl gone) (λ (failed : HasFailed mid new). let more : HasFailed old new = omega (arith, rises, failed) in inr more) removes
 
--- where it drew ids from the first on, and those are removed behind it
+-- where it drew ids from the first on, and those are removed after it
 pub removes_drawn : {S : Type 0} (world : S → World) (first : ℕ) (old mid new : Seen S) → first ≡ old.core.next_table → new.core ≡ mid.core → min (world old.store).failures (2 ^ 64 - 1) ≤ (world mid.store).failures → (first < 2 ^ 63 → RemovesDrawn first mid.core.next_table (world mid.store) (world new.store))
     → old.core.next_table < 2 ^ 63 → RemovesDrawn old.core.next_table new.core.next_table (world old.store) (world new.store)
 removes_drawn world first old mid new is same rises removes small =
@@ -62,6 +62,6 @@ pub removes_tables : (ids : List ℕ) (old new : World) (r : Result (Unit {0}) E
 removes_tables ids old new (Ok x) gone only causes = inl gone
 removes_tables ids old new (Err e) gone only causes = inr (causes.cause (inr (inr only)))
 
--- behind another call, and of the same ids
+-- after another call, and of the same ids
 pub removes_behind : (xs ys : List ℕ) (old mid new : World) → min old.failures (2 ^ 64 - 1) ≤ mid.failures → ((i : ℕ) → among xs i ≡ among ys i) → RemovesTables xs mid new → RemovesTables ys old new
 removes_behind xs ys old mid new rises same removes = ⊎_elim (λ (gone : AreAbsent new xs). inl (λ i is. gone i (same i ∙ is))) (λ (failed : HasFailed mid new). let more : HasFailed old new = omega (arith, rises, failed) in inr more) removes

@@ -42,7 +42,7 @@ use Rattle.lsm_state.proofs.FlushDeeds.{clash, marked, mark_done, none_other}
 
 -- ---- marks
 
--- a snapshot that is kept behind more events is kept before them
+-- a snapshot that is kept after more events is kept before them
 kept_before : (s : ℕ) (journal more : List Event) → is_kept s (journal ++ more) ≡ true → is_kept s journal ≡ true
 kept_before s journal more h =
     let k : fold (kept_after s) (is_kept s journal) more ≡ true = sym (fold-append (kept_after s) true journal more) ∙ h in
@@ -115,7 +115,7 @@ module _ (c : Core) (v : SeenVersion) (action : Action) (events told : List Even
     ap (saved_of (journal ++ told) notes) is,
   )
 
-  -- behind a mark
+  -- after a mark
   module _ (kept : IsKeptTree c) (w : ℕ) where
     goes_on : (journal more : List Event) → (journal ++ Mark w ∷ []) ++ more ≡ journal ++ Mark w ∷ more
     goes_on journal more = append_assoc journal (Mark w ∷ []) more

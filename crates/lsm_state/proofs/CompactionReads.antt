@@ -33,7 +33,7 @@ last es = fold (λ a e. e) (Mark 0) es
 last_behind : (es more : List Event) → last (es ++ more) ≡ fold (λ a e. e) (last es) more
 last_behind es more = fold-append (λ a e. e) (Mark 0) es more
 
--- a drop is numbered as the install that is told behind it
+-- a drop is numbered as the install that is told after it
 same_number : (before told : List Event) (d : Event) (n m : ℕ) → before ++ d ∷ (Install n ∷ []) ≡ told ++ Install m ∷ [] → n ≡ m
 same_number before told d n m h = number (sym (last_behind before (d ∷ (Install n ∷ []))) ∙ ap last h ∙ last_behind told (Install m ∷ []))
   where
@@ -65,7 +65,7 @@ module _ (theory : Soundness) where
       stays = λ opened start journal before order holds s spared. let d = deed opened [] [] in same_stays s (state_of [] old) (state_of (Mark w ∷ []) new) (Mark w ∷ []) (ap (λ t. t.state) d.2 ∙ d.1.step);
     }
 
-    -- ---- a commit behind its mark
+    -- ---- a commit after its mark
 
     done : (w : ℕ) (action : Action) (events : List Event) (IsSpared : ℕ → Type 0) → is_commit action ≡ true → AreDone w action events [] old new
         → ((s : ℕ) → IsSpared s → (opened : List Entry) (journal : List Event) (mid after : State) → Step opened mid action after → after.journal ≡ journal ++ Mark w ∷ events → Spares action after s)

@@ -1,4 +1,4 @@
--- What is counted of entries, and of others behind them.
+-- What is counted of entries, and of others after them.
 use Rattle.std.proofs.Common.{◌≡◌, ℕ, ◌+◌, ◌≤◌, List, [], ◌∷◌, ◌++◌, Some, None, length, flat_map, sum_by, max, unwrap_or, zero, suc, refl, ap, ◌∙◌, arith}
 use Rattle.std.proofs.lemmas.List.Concat.{flat_map-cons, length-flat_map}
 use Rattle.std.proofs.lemmas.List.{length-append}

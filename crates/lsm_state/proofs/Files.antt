@@ -47,7 +47,7 @@ refused_compacts tells world e old new faultless same table = let end = refused_
   no_call = end.no_call;
 }
 
--- ---- a flush behind a rotation
+-- ---- a flush after a rotation
 
 abbrev Flushed : Type 0
 Flushed = Result (Option (ℕ × Registered)) Error

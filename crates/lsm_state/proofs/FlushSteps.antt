@@ -109,7 +109,7 @@ rise_drop m a (suc n) (i ∷ ids) h =
     let over = after.over in
     record { over = omega (arith, here, over); within = after.within; rise = after.rise }
 
--- a super version without the oldest sealed memtables of the one behind it
+-- a super version without the oldest sealed memtables of the one after it
 pub names_older : (p n : ℕ) (latest next : SuperVersion) (older : List SuperVersion) → next.active_memtable ≡ latest.active_memtable → next.sealed_memtables ≡ drop n latest.sealed_memtables → NameOlder p (latest ∷ older) → NameOlder latest.active_memtable (next ∷ (latest ∷ older))
 names_older p n latest next older active sealed named =
     let a = latest.active_memtable in

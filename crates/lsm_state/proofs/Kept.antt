@@ -64,7 +64,7 @@ rise_push : (m a n : ℕ) (ids : List ℕ) → a < n → RiseFrom m (ids ++ a �
 rise_push m a n [] lt h = (h.0, (omega arith, tt))
 rise_push m a n (i ∷ ids) lt h = (h.0, rise_push (i + 1) a n ids lt h.1)
 
--- with one more behind them, the first of some ids is the same
+-- with one more after them, the first of some ids is the same
 first_push : (a n : ℕ) (ids : List ℕ) → first_or n (ids ++ a ∷ []) ≡ first_or a ids
 first_push a n [] = refl
 first_push a n (i ∷ ids) = refl

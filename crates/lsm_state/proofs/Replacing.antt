@@ -183,7 +183,7 @@ removed_upholds w w' c gone spares certain of_version of_flush stored =
 
 -- ---- outcomes
 
--- a version is installed, and the files behind it went or not
+-- a version is installed, and the files after it went or not
 pub settled : (v : SeenVersion) (w : ℕ) (r : Result (Unit {0}) Error) (old new : Core) → IfErr r (λ e. e ≡ AfterCommit) → IsInstalled v w true old new → Settles v w r old new
 settled v w (Ok x) old new only installed = record { ok = installed; after = λ h. cc h; unknown = λ h. cc h; numbers = λ h. cc h; store = λ h. cc h; memory = λ h. cc h; only = tt }
 settled v w (Err e) old new only installed = record {
@@ -196,7 +196,7 @@ settled v w (Err e) old new only installed = record {
   only = inr (inr only);
 }
 
--- files of tables went that were drawn behind all tables of a tree
+-- files of tables went that were drawn after all tables of a tree
 pub drawn_upholds : (w w' : World) (c : Core) (first : ℕ) → KeepsStored first w w' → c.lost ≡ None → AreDrawnBelow first c → UpholdsFiles w w' c c
 drawn_upholds w w' c first keeps certain fresh stored =
     let one : versions_left c ≡ c.history.latest.version ∷ [] = ap (λ o. c.history.latest.version ∷ option_to_list o) certain in

@@ -27,7 +27,7 @@ use Rattle.lsm_state.proofs.Writing.{stored_spent}
 
 -- ---- what a crash leaves
 
--- a job is given up behind a call
+-- a job is given up after a call
 pub upholds_spent : (w v : World) (old mid : Core) (n : ℕ) → Upholds w v old mid → Upholds w v old (spent n mid)
 upholds_spent w v old mid n upholds = record {
   files = λ stored. let one = upholds.files stored in (stored_spent v (versions_left mid) n mid.flush one.0, one.1);
@@ -98,11 +98,11 @@ module _ (old mid : Core) (job : SeenJob) (begins : Begins (Ok (Some job)) old m
   pub begun_written : written_of mid ≡ written_of old
   begun_written = ap written_of begun_is.1 ∙ ap written_by (sym closed)
 
-  -- a call behind it
+  -- a call after it
   pub upholds_begun : (a b d : World) (made : Core) → b ≡ a → AtRest a → Upholds b d mid made → Upholds a d old made
   upholds_begun a b d made same rest then = upholds_behind a b d old mid made begun_versions (upholds_same a b old mid same begun_versions begun_written rest) then
 
--- what is used of ids behind its beginning
+-- what is used of ids after its beginning
 pub draws_few : (w : ℕ) (old mid : Core) (job : SeenJob) → Begins (Ok (Some job)) old mid → (n : ℕ) → DrawsFew w job mid.next_table n → DrawsFew w (job_in old) old.next_table n
 draws_few w old mid job begins n few = subst (λ (j : SeenJob). DrawsFew w j old.next_table n) begins.begins.0 (subst (λ (c : Core). DrawsFew w job c.next_table n) begins.begins.1 few)
 

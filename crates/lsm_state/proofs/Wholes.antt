@@ -83,7 +83,7 @@ same_job a b h = cc h
 not_done : (r q : Result Begun Error) → r ≡ q → r ≡ Ok Installed → q ≡ Ok Installed
 not_done r q is done = sym is ∙ done
 
--- what is left behind a compaction that is installed
+-- what is left after a compaction that is installed
 pub follows_leave : (v u : World) (begun r : Result Begun Error) (old mid new : Core) → ((job : SeenCompaction) → begun ≡ Ok (Job job) → OnlyMerges old mid) → Follows begun r mid new → (begun ≡ Ok Installed → LeavesNoFiles v old.history mid.history)
     → ((job : SeenCompaction) → begun ≡ Ok (Job job) → r ≡ Ok Installed → LeavesNoFiles u mid.history new.history) → (begun ≡ Ok Installed → u ≡ v) → r ≡ Ok Installed → LeavesNoFiles u old.history new.history
 follows_leave v u (Ok DidNothing) r old mid new stays follows first second rests done = let q = not_done r (Ok DidNothing) follows.0 done in absurd (cc q)

@@ -11,7 +11,7 @@ abbrev pub BlamesBeside : {T X : Type 0} → Result T (Error × X) → Type 0
 BlamesBeside (Ok x) = ⊥
 BlamesBeside (Err e) = BlamesStore e.0
 
--- a flush that is registered: the clean-up behind it wasn't whole
+-- a flush that is registered: the clean-up after it wasn't whole
 abbrev pub BlamesOrUnclean : Result Registered Error → Type 0
 BlamesOrUnclean (Ok a) = a.cleaned ≡ false
 BlamesOrUnclean (Err e) = BlamesStore e

@@ -1,4 +1,4 @@
--- What is cleaned up behind a commit: super versions that no kept snapshot reads, and memtables that none of the others names.
+-- What is cleaned up after a commit: super versions that no kept snapshot reads, and memtables that none of the others names.
 use Rattle.std.specs.Prelude.{◌≡◌, ◌⊎◌, ◌≤◌, ◌<◌, ◌^◌, ℕ, Bool, true, false, List, ◌++◌, None, drop, length, Result, Ok, Err, IfErr}
 use Rattle.std.specs.List.{AllByRecursion}
 use Rattle.std.proofs.Common.{arith, inl}
@@ -41,7 +41,7 @@ AreAbsent w ids = (i : ℕ) → among ids i ≡ true → w.gives (table_name i) 
 abbrev pub IsUnnamed : List SeenTable → ℕ → Type 0
 IsUnnamed tables i = AllByRecursion (λ t. t.id ≡ i → ⊥) tables
 
--- behind a commit no file is left of the version of a super version that went
+-- after a commit no file is left of the version of a super version that went
 abbrev pub LeavesNoVersions : World → SeenHistory → SeenHistory → Type 0
 LeavesNoVersions w old new = AllByRecursion (λ sv. w.gives (version_name sv.version.id) ≡ None) (drop (length new.older) (versions_of old))
 

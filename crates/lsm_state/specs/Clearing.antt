@@ -35,7 +35,7 @@ pub record Clears (r : Result ℕ Error) (old new : Core) : Type 0 where
   -- the answer is the number that the commit used
   pub ok : IfOk r (λ n. (n ≡ old.seqno) × (new ≡ cleared old))
   pub unknown : IsErrOf r CommitUnknown → new ≡ doubted (cleared_in old) old
-  -- behind a commit of unknown outcome, and only there
+  -- after a commit of unknown outcome, and only there
   pub unrecoverable : IsErrOf r Unrecoverable ↔ IsSome old.lost
   -- refused otherwise, it changes nothing but that the number may be used
   pub before : IsErrOf r Unrecoverable ⊎ IsErrOf r OutOfNumbers → new ≡ old
@@ -46,7 +46,7 @@ pub record Clears (r : Result ℕ Error) (old new : Core) : Type 0 where
 
 -- ---- as the theories see it
 
--- whatever the journal and the notes, an answered clear is a clear, which covers the place behind it
+-- whatever the journal and the notes, an answered clear is a clear, which covers the place after it
 abbrev pub IsClearDeed : ℕ → Core → Core → Type 0
 IsClearDeed n old new = (opened : List Entry) (journal : List Event) (notes : List Note)
     → Deeds opened (saved_of journal notes old) (Done (Cleared n old.next_memtable) ∷ []) (saved_of (journal ++ Clear n ∷ []) (ClearedTo (length journal + 1) ∷ notes) new)
@@ -69,7 +69,7 @@ abbrev pub clear_events : Result ℕ Error → List Event
 clear_events (Ok n) = Clear n ∷ []
 clear_events (Err e) = []
 
--- behind a clear reads are right where they were; an answered one spares the snapshots that aren't above its number, a refused
+-- after a clear reads are right where they were; an answered one spares the snapshots that aren't above its number, a refused
 -- one all
 pub record ClearsKeepReads : Type 0 where
   pub clears : (r : Result ℕ Error) (old new : Core) → ClearDeeds r old new → SparesReads IsAny (clear_events r) (AreSparedBy (clear_events r)) old new

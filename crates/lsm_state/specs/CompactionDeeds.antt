@@ -25,7 +25,7 @@ use Rattle.lsm_state.specs.Compactions.{levels_of, BeginsChoice, Finishes}
 
 -- ---- moves and drops
 
--- those of a commit of unknown outcome, which tells these events behind the mark, and would have told others
+-- those of a commit of unknown outcome, which tells these events after the mark, and would have told others
 abbrev pub AreLostTelling : ℕ → Action → List Event → List Event → Core → Core → Core → Type 0
 AreLostTelling w action told events old would new = (opened : List Entry) (journal : List Event) (notes : List Note) → HasOrder old
     → Deeds opened (saved_of journal notes old) (Done (Marked w) ∷ (Lost action (state_of (journal ++ Mark w ∷ events) would) ∷ [])) (saved_of (journal ++ Mark w ∷ told) notes new)
@@ -65,7 +65,7 @@ IsMarkedIn w journal = (s : ℕ) → is_kept s journal ≡ true → w ≤ s
 abbrev pub merge_of : SeenCompaction → List SeenTable → Action
 merge_of job run = Merged job.settings.watermark job.settings.dest_level job.ids (evicts job.settings) (placed_in job.settings.dest_level run)
 
--- behind the mark of its beginning an installed merge is the merge and the maintenance
+-- after the mark of its beginning an installed merge is the merge and the maintenance
 abbrev pub IsMergeDeed : SeenCompaction → Core → Core → Type 0
 IsMergeDeed job old new = (run : List SeenTable) × ((opened : List Entry) (journal : List Event) (notes : List Note) → HasOrder old → IsMarkedIn job.settings.watermark journal
     → Deeds opened (saved_of journal notes old) (Done (merge_of job run) ∷ (Done (Maintained job.settings.watermark) ∷ [])) (saved_of (journal ++ Install old.seqno ∷ []) notes new))

@@ -43,7 +43,7 @@ pub record TellsMerge (r : Result Finished Error) (old : Core) (events : List Ev
 
 -- ---- what is left of reads
 
--- behind these events, told after such a journal, reads are right where they were, and what these snapshots see stays, where
+-- after these events, told after such a journal, reads are right where they were, and what these snapshots see stays, where
 -- they find a super version before and after
 pub record SparesReads (IsBefore : List Event → Type 0) (events : List Event) (IsSpared : ℕ → Type 0) (old new : Core) : Type 0 where
   pub right : (opened : List Entry) (start : Map) (journal : List Event) → IsBefore journal → InOrder opened (journal ++ events) → Holds opened start (state_of journal old) → Holds opened start (state_of (journal ++ events) new)

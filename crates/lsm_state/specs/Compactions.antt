@@ -123,7 +123,7 @@ Does (Drop ids) o r old new = InstallsChoice (IsDroppedFrom ids.keys old.history
 
 -- what beginning a choice answers and does
 pub record BeginsChoice (choice : Choice) (o : Options) (r : Result Begun Error) (old new : Core) : Type 0 where
-  -- behind a commit of unknown outcome, and only there
+  -- after a commit of unknown outcome, and only there
   pub unrecoverable : IsErrOf r Unrecoverable ↔ IsSome old.lost
   pub uncertain : IsSome old.lost → new ≡ old
   -- the first reason is told, unless there was no memory to find it
@@ -252,7 +252,7 @@ Spends job old new = (IsOpenIn job old.merges.underway × (new ≡ closed job.nu
 
 -- what the end of a merge answers and does; it is spent whatever it answers
 pub record Finishes (job : SeenCompaction) (r : Result Finished Error) (old new : Core) : Type 0 where
-  -- behind a commit of unknown outcome, and only there
+  -- after a commit of unknown outcome, and only there
   pub unrecoverable : IsErrOf r Unrecoverable ↔ IsSome old.lost
   pub uncertain : IsSome old.lost → Spends job old new
   -- no open merge is this one, or it is closed, and ends

@@ -1,5 +1,5 @@
 -- What a flush, a compaction or a clear does to the files of a tree. `causes`: the store is blamed only where a call of it failed.
--- `gone`: behind a whole clean-up no file is left of what went. `rests`: where nothing is installed, and nothing refused, no call of
+-- `gone`: after a whole clean-up no file is left of what went. `rests`: where nothing is installed, and nothing refused, no call of
 -- the store is made. `refused`: no table's file is left of what was written, unless a call of the store failed, or a version may
 -- name it. `no_call`: after a commit of unknown outcome no call of the store is made.
 use Rattle.std.specs.Prelude.{◌≡◌, ◌⊎◌, ℕ, ◌<◌, ◌^◌, true, false, map, Option, None, IsSome, Result, Ok, IfOk, IfErr, IfSome, IsErrOf}
@@ -49,7 +49,7 @@ pub record FlushesFiles {S : Type 0} (r : Result (Option (ℕ × Registered)) Er
   pub refused : tells → old.core.next_table < 2 ^ 63 → IfErr r (λ e. (e ≡ CommitUnknown → ⊥) → RemovesDrawn old.core.next_table new.core.next_table (world old.store) (world new.store))
   pub no_call : IsSome old.core.lost → new.store ≡ old.store
 
--- so behind a rotation
+-- so after a rotation
 pub record FlushesActiveFiles {S : Type 0} (r : Result (Option ℕ × Option (ℕ × Registered)) (Error × Option ℕ)) (tells : Type 0) (world : S → World) (old new : Seen S) : Type 0 where
   pub causes : HasCause (BlamesOrUncleanBehind r) (world old.store) (world new.store)
   pub gone : tells → IfOk r (λ a. IfSome a.1 (λ p. p.1.cleaned ≡ true → LeavesNoVersions (world new.store) old.core.history new.core.history))

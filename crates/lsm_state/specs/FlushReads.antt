@@ -28,7 +28,7 @@ flush_events w n true (Err e) = Mark w ∷ []
 
 -- ---- what is left of reads
 
--- behind these events reads are right where they were, and what each snapshot sees stays, where it finds a super version
+-- after these events reads are right where they were, and what each snapshot sees stays, where it finds a super version
 -- before and after
 pub record KeepsReads (events : List Event) (old new : Core) : Type 0 where
   pub right : (opened : List Entry) (start : Map) (journal : List Event) → InOrder opened (journal ++ events) → Holds opened start (state_of journal old) → Holds opened start (state_of (journal ++ events) new)

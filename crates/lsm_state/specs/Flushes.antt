@@ -43,7 +43,7 @@ pub record Begins (r : Result (Option SeenJob) Error) (old new : Core) : Type 0 
   pub some : IfOk r (λ j. j ≡ None → (sealed_ids old ≡ []) × (new ≡ old))
   pub begins : IfOk r (λ j. IfSome j (λ job. (job ≡ job_in old) × (new ≡ begun old)))
   pub err : OnErr r (new ≡ old)
-  -- refusals: behind a commit of unknown outcome, then while a flush is open, then where there is no number
+  -- refusals: after a commit of unknown outcome, then while a flush is open, then where there is no number
   pub unrecoverable : IsErrOf r Unrecoverable ↔ ((sealed_ids old ≡ [] → ⊥) × IsSome old.lost)
   pub flush_open : IsErrOf r FlushOpen ↔ ((sealed_ids old ≡ [] → ⊥) × ((old.lost ≡ None) × IsSome old.flush))
   pub out_of_numbers : IsErrOf r OutOfNumbers → 2 ^ 63 ≤ old.next_job
@@ -112,7 +112,7 @@ pub record IsFlushedOf (job : SeenWritten) (number : ℕ) (latest next : SuperVe
 abbrev pub IsFlushed : SeenWritten → Core → SuperVersion → Type 0
 IsFlushed job c next = IsFlushedOf job c.seqno c.history.latest next
 
--- the tree after a flush is installed, and cleaned up behind it to the end or not
+-- the tree after a flush is installed, and cleaned up after it to the end or not
 pub record Installs (job : SeenWritten) (whole : Bool) (old new : Core) : Type 0 where
   pub next : SuperVersion
   pub flushed : IsFlushed job old next
@@ -129,7 +129,7 @@ pub record Registers (job : SeenWritten) (r : Result Registered Error) (old new 
   pub installs : IfOk r (λ a. a.installed ≡ true → IsCurrent job old × Installs job a.cleaned (spent job.job.number old) new)
   pub stale : IfOk r (λ a. a.installed ≡ false → (IsCurrent job old → ⊥) × ((a.cleaned ≡ true) × (new ≡ spent job.job.number old)))
   pub unknown : IsErrOf r CommitUnknown → IsCurrent job old × Doubts job (spent job.job.number old) new
-  -- behind a commit of unknown outcome, and only there
+  -- after a commit of unknown outcome, and only there
   pub unrecoverable : IsErrOf r Unrecoverable ↔ IsSome old.lost
   -- refused otherwise, a number may be used
   pub before : IsErrOf r Unrecoverable ⊎ (IsErrOf r OutOfNumbers ⊎ IsErrOf r TooManyRuns) → new ≡ spent job.job.number old

@@ -67,7 +67,7 @@ pub record OpensTree {S : Type 0} (world : S → World) (store : S) (r : Result 
   -- what stands for a map is opened as it, and refused only for memory, a fault of the store, or a number of 2^63 or more
   pub shows : (m : Map) → StandsForMap (world store).gives m → IfOk r (λ t. StartsWith m t.core)
   pub refuses : (m : Map) → StandsForMap (world store).gives m → IfErr r (λ e. RefusesFound (world store).gives e.0)
-  -- while a ready store is opened a crash leaves what it could before, or an image that stands for the map that was read; behind
+  -- while a ready store is opened a crash leaves what it could before, or an image that stands for the map that was read; after
   -- an Ok such an image alone, and the tree's files are stored; whatever is answered, the store is ready to be opened again
   pub stands_for : IsReady (world store) → (m : Map) → StandsForMap (world store).gives m → LeavesOnly (world store) (world (store_left r)) (IsOldOrFor (world store) m)
   pub settles : IsReady (world store) → (m : Map) → StandsForMap (world store).gives m → IfOk r (λ t. (image : Image) → IsImage (world t.store).may image → StandsForMap image m)

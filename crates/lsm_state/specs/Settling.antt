@@ -31,7 +31,7 @@ history_with v c = record { latest = next_in c v; older = versions_of c.history 
 
 -- ---- outcomes
 
--- the tree after a version is installed, and maintenance behind it came to its end or not
+-- the tree after a version is installed, and maintenance after it came to its end or not
 abbrev pub IsInstalled : SeenVersion → ℕ → Bool → Core → Core → Type 0
 IsInstalled v w whole old new = Cleans w whole (committed (next_in old v) old) new
 
@@ -39,7 +39,7 @@ IsInstalled v w whole old new = Cleans w whole (committed (next_in old v) old) n
 abbrev pub IsDoubted : SeenVersion → Core → Core → Type 0
 IsDoubted v old new = new ≡ doubted (next_in old v) old
 
--- a version that may be installed, behind which the files of the tables of these ids may go
+-- a version that may be installed, after which the files of the tables of these ids may go
 pub record MaySettle (v : SeenVersion) (gone : List ℕ) (c : Core) : Type 0 where
   pub certain : c.lost ≡ None
   pub id : v.id ≡ c.history.latest.version.id + 1
@@ -56,7 +56,7 @@ HasItsTables w c v = IsStored w (versions_left c) (written_of c) → AreOnDisk w
 -- what installing a version answers and does
 pub record Settles (v : SeenVersion) (w : ℕ) (r : Result Unit Error) (old new : Core) : Type 0 where
   pub ok : OnOk r (IsInstalled v w true old new)
-  -- it stands, and what is behind it wasn't cleaned up to the end
+  -- it stands, and what is after it wasn't cleaned up to the end
   pub after : IsErrOf r AfterCommit → (whole : Bool) × IsInstalled v w whole old new
   pub unknown : IsErrOf r CommitUnknown → IsDoubted v old new
   -- refused otherwise, it changes nothing but that a number may be used

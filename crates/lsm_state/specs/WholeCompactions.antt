@@ -69,7 +69,7 @@ major_choice target config hidden version choice = MayMajor target hidden versio
 abbrev pub drop_choice : OwnedBounds → Relation Choice
 drop_choice bounds config hidden version choice = MayDropRange bounds hidden version.levels choice
 
--- what dropping a range answers and does: behind a commit of unknown outcome nothing, and nothing where its bounds are reversed
+-- what dropping a range answers and does: after a commit of unknown outcome nothing, and nothing where its bounds are reversed
 pub record DropsRange (bounds : OwnedBounds) (r : Result Begun Error) (old new : Core) : Type 0 where
   pub uncertain : IsSome old.lost → (r ≡ Err Unrecoverable) × (new ≡ old)
   pub reversed : old.lost ≡ None → are_reversed bounds ≡ true → (r ≡ Ok DidNothing) × (new ≡ old)

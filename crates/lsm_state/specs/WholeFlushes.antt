@@ -75,11 +75,11 @@ pub record Flushes (w : ℕ) (r : Result (Option (ℕ × Registered)) Error) (ol
   pub some : IfOk r (λ a. a ≡ None → (sealed_ids old ≡ []) × (new ≡ old))
   pub installs : IfOk r (λ a. IfSome a (λ p. InstallsWhole w p.0 p.1 old new))
   pub draws : DrawsFew w (job_in old) old.next_table new.next_table
-  -- refused, nothing else changes, and a version is kept only behind a commit of unknown outcome
+  -- refused, nothing else changes, and a version is kept only after a commit of unknown outcome
   pub err : OnErr r (LeavesRest old new)
   pub unknown : IsErrOf r CommitUnknown → DoubtsWhole w old new
   pub known : IfErr r (λ e. (e ≡ CommitUnknown → ⊥) → new.lost ≡ old.lost)
-  -- refusals: behind a commit of unknown outcome, then while a flush is open, each before anything is done
+  -- refusals: after a commit of unknown outcome, then while a flush is open, each before anything is done
   pub unrecoverable : IsErrOf r Unrecoverable ↔ ((sealed_ids old ≡ [] → ⊥) × IsSome old.lost)
   pub flush_open : IsErrOf r FlushOpen ↔ ((sealed_ids old ≡ [] → ⊥) × ((old.lost ≡ None) × IsSome old.flush))
   pub before : IsErrOf r Unrecoverable ⊎ IsErrOf r FlushOpen → new ≡ old
@@ -97,7 +97,7 @@ pub record MarksFlush (w : ℕ) (marked : Bool) (r : Result (Option (ℕ × Regi
   pub registered : IsErrOf r CommitUnknown ⊎ IsErrOf r TooManyRuns → marked ≡ true
   pub before : IsErrOf r Unrecoverable ⊎ IsErrOf r FlushOpen → marked ≡ false
 
--- ---- a flush behind a rotation
+-- ---- a flush after a rotation
 
 -- a rotation, and then a flush that is refused
 pub record RefusesBehind (w : ℕ) (id : Option ℕ) (e : Error) (old new : Core) : Type 0 where

@@ -1,4 +1,4 @@
-// How a super version becomes the latest one, and what is cleaned up behind it.
+// How a super version becomes the latest one, and what is cleaned up after it.
 ghost use Rattle.std.specs.Prelude.{◌≡◌, ◌≤◌, ◌<◌, ◌⊎◌, length, None, Some, IfSome, is_some, true, false, IsErrOf};
 ghost use Rattle.lsm_versions.specs.Levels.{all_of};
 ghost use Rattle.lsm_manifest.specs.Spelling.{IsFileFrom};

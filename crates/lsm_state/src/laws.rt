@@ -40,7 +40,7 @@ pub fn flushes_are_deeds()
     flushes_are_steps();
 }
 
-/// No call of a flush changes what a snapshot sees that is answered before and after, and behind it reads are right where
+/// No call of a flush changes what a snapshot sees that is answered before and after, and after it reads are right where
 /// they were.
 pub fn flushes_keep_reads()
     ensures { FlushesKeepReads }
@@ -59,7 +59,7 @@ pub fn compactions_are_deeds()
 }
 
 /// No call of a compaction changes what a snapshot sees that is answered before and after, but for a drop those above its
-/// number; and behind it reads are right where they were. The end of a merge is such where its watermark was marked before.
+/// number; and after it reads are right where they were. The end of a merge is such where its watermark was marked before.
 pub fn compactions_keep_reads()
     ensures { CompactionsKeepReads }
 {
@@ -67,7 +67,7 @@ pub fn compactions_keep_reads()
 }
 
 /// No clear changes what a snapshot sees that is answered before and after, but an answered one those above its number; and
-/// behind it reads are right where they were.
+/// after it reads are right where they were.
 pub fn clears_keep_reads()
     ensures { ClearsKeepReads }
 {

@@ -7,7 +7,7 @@
 //! | `opening::found` | what a store holds of it, before anything is changed |
 //! | `counts` | what is counted of its memtables and tables |
 //! | `writes` | its writes |
-//! | `writes::recording` | its writes, each behind a record of a log |
+//! | `writes::recording` | its writes, each after a record of a log |
 //! | `lending` | its store, lent to a log: how records are read and removed |
 //! | `reads` | its reads of one key |
 //! | `reads::ranges` | its reads of many keys |

@@ -119,7 +119,7 @@ fn put_batch(
 
 impl<S: Store> TreeState<S> {
     /// Sets a key under a sequence number, in whatever order they come. For who draws numbers of their own: it moves no
-    /// counter, so draw the number by `seqno_mut`, and behind the insert raise `visible_seqno_mut` to the number + 1.
+    /// counter, so draw the number by `seqno_mut`, and after the insert raise `visible_seqno_mut` to the number + 1.
     /// `write` does all that.
     ///
     /// Returns the bytes that the entry counts (its key's, its value's and 48) and those of the active

@@ -1,4 +1,4 @@
-// Clears of a tree, what comes too late behind one, and what is left of one that fails.
+// Clears of a tree, what comes too late after one, and what is left of one that fails.
 use crate::flushes::KEPT;
 use crate::rows::Row::{Does, Has, Shows};
 use crate::rows::{Count, Row};
@@ -214,7 +214,7 @@ const FAILING: Alike = Alike {
     end: &[Reopen(Crashed, 10), Plays(&[Shows("a", 10, "x")])],
 };
 
-/// These stand behind a crash.
+/// These stand after a crash.
 const FAILING_CLEARED: Alike = Alike {
     begin: &[Plays(&KEPT)],
     scripts: &[

@@ -1,4 +1,4 @@
-// Crashes at each store call of a script, and at each call of the opening behind it: the tree that is opened shows a beginning
+// Crashes at each store call of a script, and at each call of the opening after it: the tree that is opened shows a beginning
 // of the writes, with all that a flush covered.
 use crate::rows::shows;
 use crate::scripts::open;
@@ -11,7 +11,7 @@ use lsm_store::{Fault, MemStore, Pick, Store};
 use std::alloc::Global;
 use std::process::Abort;
 
-/// Steps, and what a and b have behind each number of writes: none where it is empty.
+/// Steps, and what a and b have after each number of writes: none where it is empty.
 type Script = (&'static [Step], &'static [(&'static str, &'static str)]);
 
 const AROUND_A_FLUSH: Script = (
@@ -145,7 +145,7 @@ fn reopens(alloc: Global, store: &MemStore, beginnings: &[(&str, &str)]) -> Resu
     Ok(true)
 }
 
-/// The store behind an opening that stops at this call, if it makes so many. A crash leaves of the store that is opened just that.
+/// The store after an opening that stops at this call, if it makes so many. A crash leaves of the store that is opened just that.
 fn stopped_opening(alloc: Global, left: &MemStore, call: u64) -> Result<MemStore, Error> {
     match left.crash(&[])? {
         Some(store) => Ok(stopped(alloc, store, 10, call, &[]).0),
@@ -153,7 +153,7 @@ fn stopped_opening(alloc: Global, left: &MemStore, call: u64) -> Result<MemStore
     }
 }
 
-/// Whether it is so of what a crash left, at each stop of its opening and behind the whole of it.
+/// Whether it is so of what a crash left, at each stop of its opening and after the whole of it.
 fn survives(alloc: Global, left: &MemStore, beginnings: &[(&str, &str)]) -> Result<bool, Error> {
     for call in 1..CALLS {
         let store = stopped_opening(alloc, left, call)?;
@@ -227,7 +227,7 @@ fn reopens_at(
     Ok((right?, is_whole))
 }
 
-/// Whether it is so at each stop of that opening, and behind the whole of it.
+/// Whether it is so at each stop of that opening, and after the whole of it.
 fn reopens_each(alloc: Global, script: &Script, failing: (u64, Fault)) -> Result<bool, Error> {
     for call in 1..CALLS {
         let (right, is_whole) = reopens_at(alloc, script, failing, call)?;
@@ -239,7 +239,7 @@ fn reopens_each(alloc: Global, script: &Script, failing: (u64, Fault)) -> Result
 }
 
 /// A commit whose outcome isn't known reads as the old version or as the new one; an opening of the same store removes what the
-/// other one names, and a crash behind it doesn't bring that one back.
+/// other one names, and a crash after it doesn't bring that one back.
 #[test]
 fn an_opening_settles_what_it_read(rt: HostRuntime) {
     for call in 1..32 {

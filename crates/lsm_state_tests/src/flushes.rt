@@ -91,7 +91,7 @@ const JOBS: [Script; 3] = [
             ]),
         ],
     ),
-    // `TooManyRuns`, behind a rotation that stays.
+    // `TooManyRuns`, after a rotation that stays.
     (
         "a level takes 255 runs",
         &[

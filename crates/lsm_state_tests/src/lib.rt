@@ -13,10 +13,10 @@
 //! | `trees` | writes, reads of one key and rotation of a tree |
 //! | `tree_ranges` | a tree's reads of many keys |
 //! | `flushes` | flushes, old snapshots over them, what a crash leaves, and what a store that fails |
-//! | `compactions` | compactions: which are declined and why, open merges, a store that fails behind a commit |
+//! | `compactions` | compactions: which are declined and why, open merges, a store that fails after a commit |
 //! | `strategies` | what strategies do to a tree, and dropped ranges |
-//! | `clears` | clears, what comes too late behind one, and what is left of one that fails |
-//! | `crashes` | crashes at each store call, and what is opened behind each |
+//! | `clears` | clears, what comes too late after one, and what is left of one that fails |
+//! | `crashes` | crashes at each store call, and what is opened after each |
 //!
 //! A tree is tested by scripts, which are data: rows of calls, each with what it answers, and of what the tree shows.
 //!

@@ -13,7 +13,7 @@ use std::process::Abort;
 /// How a store comes to be opened again, as a crash leaves it.
 pub enum Opening {
     Crashed,
-    /// A call of it fails, 1 for the first behind the opening.
+    /// A call of it fails, 1 for the first after the opening.
     Failing(u64, Fault),
 }
 
@@ -21,7 +21,7 @@ pub enum Opening {
 pub enum End {
     /// It is finished, with rows before it is run and before that.
     Finished(&'static [Row], &'static [Row]),
-    /// It is given up behind these rows.
+    /// It is given up after these rows.
     GivenUp(&'static [Row]),
     /// It is finished in another tree.
     Elsewhere,
@@ -34,7 +34,7 @@ pub enum Part {
     Fill(u32),
     /// A flush with rows before it is run and before its tables are registered, and how it ends.
     FlushOver(&'static [Row], &'static [Row], Told),
-    /// A flush that is given up behind these rows.
+    /// A flush that is given up after these rows.
     FlushGivenUp(&'static [Row]),
     /// A merge of tables into a level, what becomes of its job, and what is answered.
     Merge(&'static [TableId], u8, End, Told),
@@ -217,7 +217,7 @@ fn is_right(alloc: Global, tree: &mut TreeState, part: &Part) -> bool {
     }
 }
 
-/// The tree behind a part, and whether that is as it says.
+/// The tree after a part, and whether that is as it says.
 fn behind(alloc: Global, mut tree: TreeState, part: &Part) -> Result<(TreeState, bool), Error> {
     if let Part::Reopen(opening, next) = part {
         let closed = tree.into_store();
@@ -229,7 +229,7 @@ fn behind(alloc: Global, mut tree: TreeState, part: &Part) -> Result<(TreeState,
     Ok((tree, right))
 }
 
-/// The tree behind parts, and whether each of them is as it says.
+/// The tree after parts, and whether each of them is as it says.
 fn played(alloc: Global, tree: TreeState, parts: &[Part]) -> Result<(TreeState, bool), Error> {
     let mut tree = tree;
     let mut played = true;

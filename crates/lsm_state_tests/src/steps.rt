@@ -59,7 +59,7 @@ pub enum Told {
     Job,
     /// The number of the error.
     Refused(u8),
-    /// Refused behind a rotation, which stays.
+    /// Refused after a rotation, which stays.
     RefusedSealed(u8),
     /// A row in between was wrong.
     Wrong,

@@ -18,7 +18,7 @@ const WRITES: [Script; 6] = [
             Shows("a", 1, "x"),
         ])],
     ),
-    // The tombstone takes 1 + 48 bytes, behind 1 + 1 + 48.
+    // The tombstone takes 1 + 48 bytes, after 1 + 1 + 48.
     (
         "a tombstone hides the value above it",
         &[Plays(&[

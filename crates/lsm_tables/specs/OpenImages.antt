@@ -11,7 +11,7 @@ pub record SeenOpenImage : Type 0 where
   pub bytes : Bytes
   pub count : ℕ
 
--- it spells these entries, behind a front that doesn't count them yet
+-- it spells these entries, after a front that doesn't count them yet
 pub record Spells (es : List Entry) (i : SeenOpenImage) : Type 0 where
   pub bytes : i.bytes ≡ front i.made_at 0 ++ flat_map spelled es
   pub count : i.count ≡ length es

@@ -26,7 +26,7 @@ const MANY: usize = 2048;
 #[derive(Clone, Copy, Debug, PartialEq, Eq)]
 pub struct Checksum(u128);
 
-/// What each byte adds to a sum, with one, two and three bytes behind it.
+/// What each byte adds to a sum, with one, two and three bytes after it.
 #[derive(Drop)]
 struct Weights {
     one: [u64; 256],

@@ -46,7 +46,7 @@ impl<'a> Parts<'a> {
         }
     }
 
-    /// Puts a slice behind the others. Refused only for want of memory, also where there would be 2^64 entries, and then
+    /// Puts a slice after the others. Refused only for want of memory, also where there would be 2^64 entries, and then
     /// nothing changes.
     pub fn push(&mut self, slice: &'a [InternalValue]) -> Result<(), AllocError>
         ensures ok { OnOk result (self.new ≡ self.old ++ slice.now) }
@@ -141,7 +141,7 @@ impl<'a> Entries<'a> {
         }
     }
 
-    /// The first one, and those behind it.
+    /// The first one, and those after it.
     pub fn split_first(&self) -> Option<(&'a InternalValue, Entries<'a>)>
         ensures { MatchOption result (self.now ≡ []) (λ p. self.now ≡ p.0.now ∷ p.1) }
     {
@@ -158,7 +158,7 @@ impl<'a> Entries<'a> {
     }
 }
 
-/// The first entry of slices, what is left of its slice, and the slices behind.
+/// The first entry of slices, what is left of its slice, and the slices after.
 fn first_of<'a>(
     first: &'a [InternalValue],
     later: &'a [&'a [InternalValue]],

@@ -9,7 +9,7 @@ use lsm_state::{Begun, Finished};
 
 /// Does the merge of a compaction between its beginning and its end, while no lock is held: see `Tree::compact_gated`.
 ///
-/// It may wait, before the merge or behind it, or let only so many merges run at a time.
+/// It may wait, before the merge or after it, or let only so many merges run at a time.
 ///
 /// # Examples
 ///

@@ -112,7 +112,7 @@ impl<S: Store> Handle<TreeState<S>> {
     }
 
     /// Raises the visible counter to a number, unless it stands at a greater one: snapshots at it see what is numbered below it, so
-    /// behind a write under the number n raise it to n + 1.
+    /// after a write under the number n raise it to n + 1.
     pub fn raise_visible(&self, rt: &impl Wait, seqno: SeqNo)
         ensures { OnSomeTreeAlone S (λ old new. new ≡ record old { visible_seqno = max old.visible_seqno seqno }) }
     {

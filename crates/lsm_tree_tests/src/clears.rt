@@ -11,7 +11,7 @@ use std::thread;
 
 // ---- with a journal
 
-/// Sets a key to `x`, clears, and reads the key below the clear and behind it: whether each is as it is to be.
+/// Sets a key to `x`, clears, and reads the key below the clear and after it: whether each is as it is to be.
 fn clears(alloc: Global, tree: &mut Recorded, pass: &mut Pass) -> Result<bool, Error> {
     let written = tree.write(pass, vec![in alloc; (text("a"), Op::Set(text("x")))]?)?;
     let cleared = tree.clear(pass)?;

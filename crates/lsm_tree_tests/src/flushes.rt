@@ -64,7 +64,7 @@ fn counts(rt: &impl Wait, tree: &Tree, told: (usize, usize, usize)) -> bool {
         && tree.approximate_len(rt) == told.2
 }
 
-/// A job that is given up, and a flush in one call behind it.
+/// A job that is given up, and a flush in one call after it.
 fn give_up_and_flush(
     rt: &impl Wait,
     alloc: Global,
@@ -152,7 +152,7 @@ fn record_flushes(
     }
 }
 
-/// Two writes, each with the mark and the install of its flush behind it.
+/// Two writes, each with the mark and the install of its flush after it.
 const NOTED: [Noted; 6] = [
     Noted::Write,
     Noted::Mark(0),
@@ -248,7 +248,7 @@ fn are_replies(outcomes: &[Outcome]) -> bool {
         .all(|(at, outcome)| is_reply(outcome, at))
 }
 
-/// Whether an outcome notes a mark, and an install behind it.
+/// Whether an outcome notes a mark, and an install after it.
 fn notes_install(outcome: &Outcome, watermark: u64, number: u64) -> bool {
     match outcome.entries() {
         [JournalEntry::Mark(mark), JournalEntry::Install(install)] => {
@@ -268,7 +268,7 @@ fn a_job_waits_in_its_slot(rt: HostRuntime) {
     drop(told);
 }
 
-/// Flushes in one call: of the sealed memtable, of the active one, and of nothing; and what is counted behind them.
+/// Flushes in one call: of the sealed memtable, of the active one, and of nothing; and what is counted after them.
 fn steps_of_flushes(alloc: Global) -> Result<Vec<Step>, AllocError> {
     let mut steps = Vec::new(alloc);
     steps.push(Step::SetMoment(5))?;

@@ -127,7 +127,7 @@ fn is_raised(rt: &impl Wait, flag: &Mutex<bool>) -> bool {
     false
 }
 
-/// Runs a job behind the get of another caller, and gives it back where that doesn't come.
+/// Runs a job after the get of another caller, and gives it back where that doesn't come.
 #[derive(Drop)]
 struct BehindGet<'a, R: Wait> {
     rt: &'a R,

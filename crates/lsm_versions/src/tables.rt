@@ -113,7 +113,7 @@ pub fn tables_in_runs(runs: &[Run<Table>]) -> Tables<'_>
     }
 }
 
-/// Tables, and behind them all of levels.
+/// Tables, and after them all of levels.
 pub(crate) fn tables_before<'a>(tables: &'a [Table], levels: &'a [Level]) -> Tables<'a>
     ensures { result ≡ tables.now ++ all_of levels.now }
 {

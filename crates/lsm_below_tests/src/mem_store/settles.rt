@@ -8,7 +8,7 @@ use std::alloc::Global;
 use std::process::Abort;
 use std::test::Fail;
 
-/// Calls on the name a, the fault of the last one, the fault of the settling behind them, and what looks then find.
+/// Calls on the name a, the fault of the last one, the fault of the settling after them, and what looks then find.
 struct Case {
     name: &'static str,
     calls: &'static [Call],

@@ -51,7 +51,7 @@ pub enum Flaw {
     Type(Place, u8),
     /// The part removes its key, and has a value.
     Valued(Place),
-    /// The entry isn't behind the one before it.
+    /// The entry isn't after the one before it.
     Order(Place),
     /// A key of a record comes twice.
     Repeats,

@@ -109,7 +109,7 @@ fn take_item<'a>(cursor: &mut Cursor<'a>, part: Part, item: u64) -> Result<Item<
     }
 }
 
-/// Whether an entry may stand behind another: its key is greater, or the same with a lesser number.
+/// Whether an entry may stand after another: its key is greater, or the same with a lesser number.
 fn is_behind(before: Option<Item<'_>>, entry: Item<'_>) -> bool {
     match before {
         Some(before) => {
@@ -119,7 +119,7 @@ fn is_behind(before: Option<Item<'_>>, entry: Item<'_>) -> bool {
     }
 }
 
-/// What is wrong behind the last item.
+/// What is wrong after the last item.
 fn end_flaw(cursor: &Cursor<'_>) -> Option<Flaw> {
     if cursor.left() > 0 {
         Some(Flaw::TooMany(cursor.at(), cursor.left()))

@@ -61,7 +61,7 @@ fn take_said(cursor: &mut Cursor<'_>) -> Result<Said, Flaw> {
     })
 }
 
-/// Whether the number stands behind the layout from which a log is read.
+/// Whether the number stands after the layout from which a log is read.
 fn take_from(cursor: &mut Cursor<'_>) -> Result<bool, Flaw> {
     if cursor.left() == 0 {
         return Ok(false);

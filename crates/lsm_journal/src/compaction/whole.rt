@@ -13,7 +13,7 @@ use lsm_state::{Begun, Options, TreeState};
 use lsm_store::Store;
 
 /// Compacts as was chosen, in one call, as `TreeState::compact_choice`. It answers beside it what
-/// a journal notes of it: what `begin_chosen` answers, and behind that the install of a merge. The answer is never
+/// a journal notes of it: what `begin_chosen` answers, and after that the install of a merge. The answer is never
 /// `Begun::Job`. The cost is that of the parts.
 ///
 /// # Errors

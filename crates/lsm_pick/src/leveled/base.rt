@@ -19,7 +19,7 @@ pub struct Base {
 }
 
 impl Leveled {
-    /// Whether a level has no more than its target, where it stands some levels behind the first full one.
+    /// Whether a level has no more than its target, where it stands some levels after the first full one.
     fn fits(&self, hidden: &HiddenSet, level: &Level, steps: usize) -> bool
         ensures { IsTrue result ↔ (unhidden_bytes hidden.now (tables_of level.now) ≤ target_after self.now steps) }
     {

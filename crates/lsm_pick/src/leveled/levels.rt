@@ -31,7 +31,7 @@ pub(crate) fn unhidden_bytes(hidden: &HiddenSet, runs: &[Run<Table>]) -> u64
     total
 }
 
-/// The first level with a table, behind the first; 6 where there is none.
+/// The first level with a table, after the first; 6 where there is none.
 pub(crate) fn first_full(levels: &[Level]) -> usize
     requires { length levels.now ≡ 7 }
     ensures { IsFirstFull levels.now result }

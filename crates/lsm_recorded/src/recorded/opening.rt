@@ -71,7 +71,7 @@ impl<S: Store> Recorded<S> {
         // Or it leaves what was there, or the new tree.
         ensures new_moment { S.tells → (S.world store).gives current_name ≡ None → LeavesOnly (S.world store) (S.world (store_left result)) (IsOldOrNew 0 (file_of first_version) (S.world store)) }
         // Over a store that is ready to be opened a crash meanwhile leaves what it could before, or the tables that were
-        // read; the store is then ready again, whatever is answered, and behind an Ok the tree's files are stored.
+        // read; the store is then ready again, whatever is answered, and after an Ok the tree's files are stored.
         ensures meanwhile { S.tells → (ts : SeenLevels) → IsReady (S.world store) → Finds (S.world store).gives ts → OpeningLeaves (S.world store) (S.world (store_left result)) ts }
         ensures stored { S.tells → IsReady (S.world store) → IfOk result (λ t. IsStored (S.world t.tree.store) (versions_left t.tree.core) (written_of t.tree.core)) }
         // Refused for a fault of its files, their order included, the store is as it was.

@@ -75,12 +75,12 @@ impl<S: Store> TreeState<S> {
         }
     }
 
-    /// Installs a version, whose tables are on the disk, and cleans up behind it: maintenance at a watermark, and then the
+    /// Installs a version, whose tables are on the disk, and cleans up after it: maintenance at a watermark, and then the
     /// files of the tables of these ids go, unless maintenance failed.
     ///
     /// # Errors
     ///
-    /// Those of `commit`, and `AfterCommit` where the version is installed, but the store failed behind the commit.
+    /// Those of `commit`, and `AfterCommit` where the version is installed, but the store failed after the commit.
     pub(crate) fn settle(
         &mut self,
         version: Version,

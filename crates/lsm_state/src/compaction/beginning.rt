@@ -227,13 +227,13 @@ impl<S: Store> TreeState<S> {
     /// 2^63 merges were opened, or the version's id is 2^64 - 1; `TooManyRuns` where a level would have 256 runs or a run
     /// 2^32 tables; `OutOfMemory`; `Store` where the version's file wasn't written. `CommitUnknown` where replacing `current`
     /// failed: reads stay as they are, and a crash leaves the old version or the new one. `AfterCommit` where the choice is
-    /// installed, but the store failed behind it: files may stay that nothing needs.
+    /// installed, but the store failed after it: files may stay that nothing needs.
     pub fn begin_choice(&mut self, choice: Choice, options: Options) -> Result<Begun, Error>
         ensures begins { BeginsChoice choice options result self.old.core self.new.core }
         // What a crash leaves, and what the call does to files.
         ensures upholds { S.tells → Upholds (S.world self.old.store) (S.world self.new.store) self.old.core self.new.core }
         ensures files { BeginsFiles result S.tells S.world self.old self.new }
-        // As the theories see it: the mark, and behind it the move or the drop with its maintenance, or one of unknown outcome.
+        // As the theories see it: the mark, and after it the move or the drop with its maintenance, or one of unknown outcome.
         ensures deeds { ChoiceDeeds choice options.mvcc_gc_watermark result self.old.core self.new.core }
     {
         compactions_are_deeds();

@@ -243,7 +243,7 @@ impl<S: Store> TreeState<S> {
 
     /// Ends a merge that was done, and is spent whatever is answered: its tables aren't in use any more. Where it is open, and
     /// no reason declines it on the version that is the latest now, its files are written one after the other under the next
-    /// ids, and a version is installed that has its tables in place of its inputs. Behind it what no snapshot from its
+    /// ids, and a version is installed that has its tables in place of its inputs. After it what no snapshot from its
     /// watermark on reads is cleaned up, and the files of the inputs go. The cost is linear in the bytes of the files, in the
     /// entries of the inputs, which are compared, and in the tables of the tree.
     ///
@@ -253,7 +253,7 @@ impl<S: Store> TreeState<S> {
     /// stands at 2^63 or above, or the version's id at 2^64 - 1; `TooManyRuns` where a level would have 256 runs or a run
     /// 2^32 tables; `OutOfMemory`; `Store` where a file wasn't written. `CommitUnknown` where replacing `current` failed:
     /// reads stay as they are, and a crash leaves the old version or the new one. `AfterCommit` where the merge is
-    /// installed, but the store failed behind it: files may stay that nothing needs. Refused otherwise, reads stay and the
+    /// installed, but the store failed after it: files may stay that nothing needs. Refused otherwise, reads stay and the
     /// files that were written are removed, as far as the store lets it; a sequence number and ids of tables may be used.
     pub fn finish_compaction(&mut self, merged: MergedCompaction) -> Result<Finished, Error>
         ensures finishes { Finishes merged.job result self.old.core self.new.core }

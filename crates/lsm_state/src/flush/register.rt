@@ -144,7 +144,7 @@ impl<S: Store> TreeState<S> {
             && have_entries(&self.memtables, memtables)
     }
 
-    /// Installs a job that is spent, and cleans up behind it.
+    /// Installs a job that is spent, and cleans up after it.
     fn install(&mut self, job: &WrittenFlush) -> Result<Registered, Error>
         requires { MayInstall job.now self.old.core }
         ensures installs { InstallsSpent job.now result self.old.core self.new.core }
@@ -231,11 +231,11 @@ impl<S: Store> TreeState<S> {
 
     /// Installs the tables of a job, if it is the open one, its tables are those that were written for it, its memtables
     /// are the first sealed ones, and their entries are its own: then a new super version reads the tables in place of the
-    /// memtables, and what no snapshot from the job's watermark on reads is cleaned up behind it. Else it is stale, and
+    /// memtables, and what no snapshot from the job's watermark on reads is cleaned up after it. Else it is stale, and
     /// nothing changes. The job is spent whatever is answered: its flush is no longer open. The cost is linear in the
     /// entries, which are compared, and in the tables.
     ///
-    /// `cleaned` is false where the store failed behind the commit: what was to go is tried again by the next one.
+    /// `cleaned` is false where the store failed after the commit: what was to go is tried again by the next one.
     ///
     /// # Errors
     ///
@@ -253,7 +253,7 @@ impl<S: Store> TreeState<S> {
         // What a crash leaves, and what the call does to files.
         ensures upholds { S.tells → Upholds (S.world self.old.store) (S.world self.new.store) self.old.core self.new.core }
         ensures files { RegistersFiles job result S.tells S.world self.old self.new }
-        // As the theories see it: the mark, and behind it the flush and the maintenance, or one of unknown outcome.
+        // As the theories see it: the mark, and after it the flush and the maintenance, or one of unknown outcome.
         ensures marks { IsMarkDeed job.watermark self.old.core (spent job.job.number self.old.core) }
         ensures deeds { IfOk result (λ a. a.installed ≡ true → IsFlushDeed job self.old.core self.new.core) }
         ensures lost { IsErrOf result Error.CommitUnknown → IsLostFlush job self.old.core self.new.core }

@@ -113,7 +113,7 @@ impl<S: Store> TreeState<S> {
     /// stale. Answers None where nothing is sealed, else the bytes that the sealed memtables count, up to 2^64 - 1, beside
     /// what became of the flush. The cost is linear in the entries of the sealed memtables and in the tables of the tree.
     ///
-    /// `cleaned` is false where the store failed behind the commit: what was to go is tried again by the next one.
+    /// `cleaned` is false where the store failed after the commit: what was to go is tried again by the next one.
     ///
     /// # Errors
     ///

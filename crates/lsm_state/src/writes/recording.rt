@@ -55,7 +55,7 @@ fn put_revocably(
 }
 
 /// Puts entries into the active memtable, once this record is put. They stand there before, so that no growth is refused
-/// behind the record, and are taken back where it is refused.
+/// after the record, and are taken back where it is refused.
 fn put_behind_record<S: Store>(
     memtables: &mut Memtables,
     store: &mut S,
@@ -81,7 +81,7 @@ fn put_behind_record<S: Store>(
 }
 
 impl<S: Store> TreeState<S> {
-    /// `write`, behind a record of the batch: makes all growths, puts the record `log/<n>` of the number n that the batch
+    /// `write`, after a record of the batch: makes all growths, puts the record `log/<n>` of the number n that the batch
     /// draws, and only then writes the batch. It is the call of a log above the tree, which asks before it whether an outcome
     /// is unknown.
     ///

@@ -234,7 +234,7 @@ fn fill_beside<R: Files>(rt: &R, fresh: &str, bytes: &[u8]) -> io::Result<()> {
 }
 
 /// Whether a rename that failed so has done nothing: so it is but for an input/output error, which is among those that have
-/// no kind of their own, and for what a file system over a network may answer behind its effect.
+/// no kind of their own, and for what a file system over a network may answer after its effect.
 fn rename_failed(error: io::Error) -> Failure {
     match error.kind() {
         ErrorKind::Uncategorized

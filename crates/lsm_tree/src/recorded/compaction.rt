@@ -129,7 +129,7 @@ impl<S: Store> Handle<Recorded<S>> {
 
     /// Compacts as a strategy chooses, and has a gate do the merge where there is one, as `Tree::compact_gated`: the gate is
     /// handed the job while no lock is held. The pass gets the mark as the compaction begins, and what is installed where it
-    /// is: behind a merge, the entries of other callers may stand in between. The answer is never `Begun::Job`.
+    /// is: after a merge, the entries of other callers may stand in between. The answer is never `Begun::Job`.
     ///
     /// # Errors
     ///

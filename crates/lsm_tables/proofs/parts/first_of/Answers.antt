@@ -6,7 +6,7 @@ use Rattle.lsm_below.specs.Entries.{Entry}
 use Rattle.lsm_tables.specs.Parts.{in_slices}
 use Rattle.lsm_tables.proofs.parts.first_of.Goals as goal
 
--- the slice behind those that have no entry begins with the first entry
+-- the slice after those that have no entry begins with the first entry
 found : (first rest : List Entry) (later : List (Bor (List Entry))) (at : ℕ) (slice : Bor (List Entry)) (e : Entry) → first ≡ [] → in_slices (take at later) ≡ [] → at < length later → slice ≡ get_or later at slice → slice.now ≡ e ∷ rest
     → first ++ in_slices later ≡ e ∷ (rest ++ in_slices (drop (at + 1) later))
 found first rest later at slice e none empty lt is begins =
