@@ -23,7 +23,7 @@ use Rattle.lsm_state.specs.WholeCompactions.{Follows}
 use Rattle.lsm_state.specs.Files.{FlushesFiles, FlushesActiveFiles, BeginsFiles, FinishesFiles, CompactsFiles, FollowsFiles}
 use Rattle.lsm_state.proofs.Causing.{follows_cause}
 use Rattle.lsm_state.proofs.CleaningUp.{rotated_leaves}
-use Rattle.lsm_state.proofs.WholeFlushes.{rotated_lost, rotated_table}
+use Rattle.lsm_state.proofs.WholeFlushes.{rotated_lost, rotated_open, rotated_table}
 use Rattle.lsm_state.proofs.Merges.{spent_stays}
 use Rattle.lsm_state.proofs.Wholes.{OnlyMerges, job_stays, begun_stays, follows_leave, DrawsNone, choice_draws, compaction_draws, refused_behind, rests_behind}
 
@@ -78,6 +78,7 @@ rotated_files tells world id r old mid new rotates same files = record {
   rests = behind_rests id r old.store mid.store new.store same files.rests;
   refused = λ told. behind_refused id r (world old.store) (world new.store) old.core mid.core new.core rotates (subst (λ s. mid.core.next_table < 2 ^ 63 → IfErr r (λ e. (e ≡ CommitUnknown → ⊥) → RemovesDrawn mid.core.next_table new.core.next_table (world s) (world new.store))) same (files.refused told));
   no_call = λ lost. files.no_call (subst IsSome (sym (rotated_lost old.core id mid.core rotates)) lost) ∙ same;
+  flush_open = λ some. files.flush_open (subst IsSome (sym (rotated_open old.core id mid.core rotates)) some) ∙ same;
 }
 
 -- ---- compactions

@@ -66,6 +66,10 @@ pub rotated_table : (old : Core) (id : Option ℕ) (mid : Core) → Rotates old 
 rotated_table old None mid rotates = ap (λ (c : Core). c.next_table) rotates.1
 rotated_table old (Some id) mid rotates = ap (λ (c : Core). c.next_table) rotates.2
 
+pub rotated_open : (old : Core) (id : Option ℕ) (mid : Core) → Rotates old id mid → mid.flush ≡ old.flush
+rotated_open old None mid rotates = ap (λ (c : Core). c.flush) rotates.1
+rotated_open old (Some id) mid rotates = ap (λ (c : Core). c.flush) rotates.2
+
 -- ---- a job that is begun
 
 module _ (old mid : Core) (job : SeenJob) (begins : Begins (Ok (Some job)) old mid) where
@@ -348,3 +352,14 @@ module _ (w : ℕ) (old mid made : Core) (job : SeenJob) (x : SeenWritten) (begi
       numbered = λ h. subst (λ (c : Core). c.seqno < 2 ^ 63) made_is (registers.numbered (told TooManyRuns h));
       only = ⊎_elim inl (λ r. inr (⊎_elim (λ u. inl (inl u)) inr r)) registers.only;
     }
+
+-- a flush that is answered found none open
+pub flushed_closed : (w : ℕ) (p : ℕ × Registered) (old new : Core) → Flushes w (Ok (Some p)) old new → IsSome old.flush → ⊥
+flushed_closed w p old new f some = cc (f.flush_open.1 (something, (certain old.lost refl, some)))
+  where
+    something : sealed_ids old ≡ [] → ⊥
+    something none = cc (f.none none)
+
+    certain : (o : Option SeenVersion) → old.lost ≡ o → old.lost ≡ None
+    certain None is = is
+    certain (Some v) is = absurd (cc (f.unrecoverable.1 (something, subst IsSome (sym is) refl)))

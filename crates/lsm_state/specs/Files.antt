@@ -1,7 +1,7 @@
 -- What a flush, a compaction or a clear does to the files of a tree. `causes`: the store is blamed only where a call of it failed.
 -- `gone`: after a whole clean-up no file is left of what went. `rests`: where nothing is installed, and nothing refused, no call of
 -- the store is made. `refused`: no table's file is left of what was written, unless a call of the store failed, or a version may
--- name it. `no_call`: after a commit of unknown outcome no call of the store is made.
+-- name it. `no_call`: after a commit of unknown outcome no call of the store is made. `flush_open`: nor is one while a flush is open.
 use Rattle.std.specs.Prelude.{◌≡◌, ◌⊎◌, ℕ, ◌<◌, ◌^◌, true, false, map, Option, None, IsSome, Result, Ok, IfOk, IfErr, IfSome, IsErrOf}
 use Rattle.lsm_below.specs.declared.error.Error.{Error}
 use Rattle.lsm_below.specs.declared.error.Error.TheVariants.{CommitUnknown, OutOfNumbers, TooManyRuns}
@@ -48,6 +48,7 @@ pub record FlushesFiles {S : Type 0} (r : Result (Option (ℕ × Registered)) Er
   pub rests : IfOk r (λ a. a ≡ None → new.store ≡ old.store)
   pub refused : tells → old.core.next_table < 2 ^ 63 → IfErr r (λ e. (e ≡ CommitUnknown → ⊥) → RemovesDrawn old.core.next_table new.core.next_table (world old.store) (world new.store))
   pub no_call : IsSome old.core.lost → new.store ≡ old.store
+  pub flush_open : IsSome old.core.flush → new.store ≡ old.store
 
 -- so after a rotation
 pub record FlushesActiveFiles {S : Type 0} (r : Result (Option ℕ × Option (ℕ × Registered)) (Error × Option ℕ)) (tells : Type 0) (world : S → World) (old new : Seen S) : Type 0 where
@@ -56,6 +57,7 @@ pub record FlushesActiveFiles {S : Type 0} (r : Result (Option ℕ × Option (�
   pub rests : IfOk r (λ a. a.1 ≡ None → new.store ≡ old.store)
   pub refused : tells → old.core.next_table < 2 ^ 63 → IfErr r (λ e. (e.0 ≡ CommitUnknown → ⊥) → RemovesDrawn old.core.next_table new.core.next_table (world old.store) (world new.store))
   pub no_call : IsSome old.core.lost → new.store ≡ old.store
+  pub flush_open : IsSome old.core.flush → new.store ≡ old.store
 
 -- ---- a compaction
 

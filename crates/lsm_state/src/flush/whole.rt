@@ -117,7 +117,7 @@ impl<S: Store> TreeState<S> {
     ///
     /// # Errors
     ///
-    /// `Unrecoverable` after a `CommitUnknown`, with no store call, and `FlushOpen` where a flush is open: each only where
+    /// `Unrecoverable` after a `CommitUnknown`, and `FlushOpen` where a flush is open: each with no store call, and only where
     /// something is sealed. `OutOfNumbers` where 2^63 flushes were begun, the next table's id or the counter stands at 2^63
     /// or above, or the version's id at 2^64 - 1; `TooManyRuns` where the first level would have 256 runs, after those that
     /// don't overlap are joined, or a run 2^32 tables; `OutOfMemory`; `Store` where a file wasn't written. `CommitUnknown`

@@ -10,7 +10,7 @@ returns-in-Err-clause-files g c =
     let w = g.S.Store.world in
     let old = c.args.tree.now in
     let new = c.rotate_memtable.new.self in
-    record { causes = search rules; gone = search rules; rests = tt; no_call = search rules; refused = λ tells small known. none_drawn old.core.next_table new.core.next_table (w old.store) (w new.store) (ap (λ t. t.core.next_table) c.in-Err.ensures.err) }
+    record { causes = search rules; gone = search rules; rests = tt; no_call = search rules; flush_open = search rules; refused = λ tells small known. none_drawn old.core.next_table new.core.next_table (w old.store) (w new.store) (ap (λ t. t.core.next_table) c.in-Err.ensures.err) }
 
 pub returns-clause-flushes : goal.returns-clause-flushes
 returns-clause-flushes g c =

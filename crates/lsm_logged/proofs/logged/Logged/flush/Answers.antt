@@ -1,4 +1,4 @@
-use Rattle.std.proofs.Common.{◌≡◌, ◌⊎◌, ℕ, ◌<◌, ◌^◌, false, [], Option, Some, None, Result, Ok, Err, refl, sym, ap, ◌∙◌, subst, rules}
+use Rattle.std.proofs.Common.{◌≡◌, ◌⊎◌, ℕ, ◌<◌, ◌^◌, false, [], Option, Some, None, IsSome, Result, Ok, Err, refl, sym, ap, ◌∙◌, subst, rules}
 use Rattle.std.proofs.lemmas.Result.{err_from_is_err_and}
 use Rattle.lsm_below.specs.declared.error.Error.{Error}
 use Rattle.lsm_below.specs.declared.error.Error.TheVariants.{Unrecoverable}
@@ -14,6 +14,7 @@ use Rattle.lsm_logged.proofs.Removals.{passes_alone, none_alone, leaves_behind}
 use Rattle.lsm_logged.proofs.Gone.{gone_behind, cleaned_cause}
 use Rattle.lsm_logged.proofs.Seen.{logged_with}
 use Rattle.lsm_state.specs.Cleaning.{none_drawn}
+use Rattle.lsm_state.proofs.WholeFlushes.{flushed_closed}
 use Rattle.lsm_state.specs.Files.{FlushesFiles}
 use Rattle.lsm_logged.proofs.logged.Logged.flush.Given.{Over}
 use Rattle.lsm_logged.proofs.logged.Logged.flush.Goals as goal
@@ -130,6 +131,7 @@ returns-then-is_flush_unsure-clause-files g c =
       rests = search rules;
       refused = λ tells small known. none_drawn _ _ (g.S.Store.world c.args.self.now.store) (g.S.Store.world c.args.self.now.store) refl;
       no_call = search rules;
+      flush_open = search rules;
     }
 
 pub returns-in_err-flushed-clause-files : goal.returns-in_err-flushed-clause-files
@@ -144,12 +146,15 @@ returns-in-Some-clause-files g c =
     let mid = c.flush.new.self in
     let files = subst (λ (x : Option (ℕ × Registered)). FlushesFiles (Ok x) g.S.Store.tells w i.tree mid) c.in-Some.is c.in_ok-flushed.ensures.files in
     let cleans = c.clean_log.ensures.cleans in
+    let f = subst (λ (x : Option (ℕ × Registered)). Flushes c.args.watermark (Ok x) i.tree.core mid.core) c.in-Some.is c.in_ok-flushed.ensures.flushes in
+    let none_open = flushed_closed c.args.watermark (c.in-Some.bytes, c.in-Some.registered) i.tree.core mid.core f in
     record {
       causes = rw (← c.self.view_is) (cleaned_cause c.in-Some.registered c.clean_log.result (w i.tree.store) (w mid.store) (w c.clean_log.new.self.store) files.causes c.clean_log.ensures.causes);
       gone = λ tells cleaned. gone_behind w i.tree mid i.numbers.items i.doubted c.clean_log.new.self c.args.self.now c.self.view_is cleans.core (c.clean_log.ensures.others tells) (files.gone tells (cleans.cleaned cleaned));
       rests = search rules;
       refused = search rules;
       no_call = search rules;
+      flush_open = λ some. absurd (none_open (subst (λ (t : SeenLogged g.row.S.Denot). IsSome t.core.flush) (sym c.self.view_is) some));
     }
 
 pub returns-in-None-clause-files : goal.returns-in-None-clause-files

@@ -105,6 +105,7 @@ returns-in-Err-clause-files g c =
       rests = tt;
       refused = λ tells small known. none_drawn _ _ (g.S.Store.world c.args.self.now.store) (g.S.Store.world c.rotate_memtable.new.self.store) same;
       no_call = search rules;
+      flush_open = search rules;
     }
 
 pub returns-in-Err-flush-clause-files : goal.returns-in-Err-flush-clause-files

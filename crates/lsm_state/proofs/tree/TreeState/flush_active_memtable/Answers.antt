@@ -18,7 +18,7 @@ returns-in-Err-clause-files g c =
     let w = g.S.Store.world in
     let old = c.args.self.now in
     let new = c.rotate_memtable.new.self in
-    record { causes = search rules; gone = search rules; rests = tt; no_call = search rules; refused = λ tells small known. none_drawn old.core.next_table new.core.next_table (w old.store) (w new.store) (ap (λ t. t.core.next_table) c.in-Err.ensures.err) }
+    record { causes = search rules; gone = search rules; rests = tt; no_call = search rules; flush_open = search rules; refused = λ tells small known. none_drawn old.core.next_table new.core.next_table (w old.store) (w new.store) (ap (λ t. t.core.next_table) c.in-Err.ensures.err) }
 
 pub returns-in-Err-flush-clause-files : goal.returns-in-Err-flush-clause-files
 returns-in-Err-flush-clause-files g c = rotated_files g.S.Store.tells g.S.Store.world c.in-Ok.sealed (Err c.in-Err-flush.error) c.args.self.now c.rotate_memtable.new.self c.flush.new.self c.in-Ok.ensures.ok c.rotate_memtable.ensures.store c.in-Err-flush.ensures.files

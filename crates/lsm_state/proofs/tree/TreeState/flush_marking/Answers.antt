@@ -10,7 +10,7 @@ use Rattle.std.proofs.Common.{ap, subst, Ok}
 use Rattle.std.proofs.lemmas.Result.{err_from_is_err_and}
 use Rattle.lsm_state.specs.Core.{versions_left}
 use Rattle.lsm_state.specs.Flushes.{Begins}
-use Rattle.lsm_state.proofs.WholeFlushes.{upholds_as_it_was, upholds_begun, upholds_whole, begun_core, made_history, flushed, refused, marks_flushed, marks_refused, certain, left_below, drawn_below}
+use Rattle.lsm_state.proofs.WholeFlushes.{upholds_as_it_was, upholds_begun, upholds_whole, begun_core, made_history, flushed, refused, marks_flushed, marks_refused, certain, closed, left_below, drawn_below}
 use Rattle.lsm_state.proofs.tree.TreeState.flush_marking.Goals as goal
 
 pub returns-in_err-job-clause-upholds : goal.returns-in_err-job-clause-upholds
@@ -42,6 +42,7 @@ returns-in_err-written-clause-files g c =
       rests = search rules;
       refused = λ tells small. rw (p.1, p.2) (λ isnt. subst (λ z. RemovesDrawn old.core.next_table made.core.next_table (w z) (w made.store)) c.begin_flush.ensures.store (did tells small));
       no_call = search rules;
+      flush_open = λ some. let z = subst IsSome (closed old.core mid.core c.in-Some.job begins) some in absurd (cc z);
     }
 
 pub remove_drawn-requires : goal.remove_drawn-requires
@@ -81,6 +82,7 @@ returns-in-Ok-clause-files g c =
       rests = search rules;
       refused = search rules;
       no_call = search rules;
+      flush_open = λ some. let z = subst IsSome (closed c.args.self.now.core c.begin_flush.new.self.core c.in-Some.job begins) some in absurd (cc z);
     }
 
 pub returns-in-Err-CommitUnknown-clause-flushes : goal.returns-in-Err-CommitUnknown-clause-flushes
@@ -99,6 +101,18 @@ pub returns-in-Err-CommitUnknown-clause-upholds : goal.returns-in-Err-CommitUnkn
 returns-in-Err-CommitUnknown-clause-upholds g c tells =
     let begins = subst (λ o. Begins (Ok o) c.args.self.now.core c.begin_flush.new.self.core) c.in-Some.is c.in_ok-job.ensures.begins in
     upholds_whole c.args.watermark c.args.self.now.core c.begin_flush.new.self.core c.write_job.new.self.core c.in-Some.job c.in_ok-written.written begins c.in_ok-written.ensures.writes (g.S.Store.world c.args.self.now.store) (g.S.Store.world c.begin_flush.new.self.store) (g.S.Store.world c.write_job.new.self.store) (g.S.Store.world c.register.new.self.store) c.register.new.self.core (ap g.S.Store.world c.begin_flush.ensures.store) (c.stays_stored.ensures tells) (c.write_job.ensures.upholds tells) (c.register.ensures.upholds tells)
+
+pub returns-in-Err-CommitUnknown-clause-files : goal.returns-in-Err-CommitUnknown-clause-files
+returns-in-Err-CommitUnknown-clause-files g c =
+    let begins = subst (λ o. Begins (Ok o) c.args.self.now.core c.begin_flush.new.self.core) c.in-Some.is c.in_ok-job.ensures.begins in
+    record {
+      causes = search rules;
+      gone = search rules;
+      rests = search rules;
+      refused = search rules;
+      no_call = search rules;
+      flush_open = λ some. let z = subst IsSome (closed c.args.self.now.core c.begin_flush.new.self.core c.in-Some.job begins) some in absurd (cc z);
+    }
 
 pub returns-in-Err : goal.returns-in-Err
 returns-in-Err g c =
@@ -121,5 +135,6 @@ returns-in-Err g c =
         rests = tt;
         refused = λ tells small isnt. removes_drawn w c.get-first.result old reg new (c.get-first.ensures ∙ ap (λ t. t.core.next_table) c.self.view_is) behind.core all.rises (behind.gone tells) small;
         no_call = λ some. let z = subst IsSome (certain old.core c.begin_flush.new.self.core c.in-Some.job begins) some in absurd (cc z);
+        flush_open = λ some. let z = subst IsSome (closed old.core c.begin_flush.new.self.core c.in-Some.job begins) some in absurd (cc z);
       };
     }
