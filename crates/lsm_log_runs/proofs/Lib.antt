@@ -20,6 +20,6 @@ pub mod Runs
 pub mod Opening
 pub mod Crashed
 pub mod Taken
-pub mod Openings
+pub mod EndedOpening
 pub mod Lives
 pub mod Fresh

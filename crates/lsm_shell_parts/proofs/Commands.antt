@@ -1,7 +1,7 @@
 -- What the words of a line ask.
 use Rattle.std.proofs.Common.{◌≡◌, ℕ, ◌<◌, List, [], ◌∷◌, length, Option, Some, None, refl, arith}
 use Rattle.lsm_shell_parts.specs.Word.{words_of}
-use Rattle.lsm_shell_parts.specs.Words.{HasNoFewWords}
+use Rattle.lsm_shell_parts.specs.FewWords.{HasNoFewWords}
 use Rattle.lsm_shell_parts.specs.Command.{command_of, command_of_words, command_of_one, command_of_two, command_of_three, command_of_four, command_of_five}
 
 pub asks_one : (line a : List ℕ) → words_of line ≡ Some (a ∷ []) → command_of line ≡ command_of_one a

@@ -7,7 +7,7 @@ use Rattle.std.proofs.lemmas.List.Elements.{All-from_get_or}
 use Rattle.std.proofs.lemmas.List.Sums.{fails_before_first, AllPass-from_list_all}
 use Rattle.std.proofs.lemmas.List.Splits.{slice_split_none, slice_split_first, length-slice_split, join_with_byte-slice_split}
 use Rattle.lsm_shell_parts.specs.Word.{is_word, is_word_byte, parts_of, words_of}
-use Rattle.lsm_shell_parts.specs.Words.{HasNoFewWords, list_of_words}
+use Rattle.lsm_shell_parts.specs.FewWords.{HasNoFewWords, list_of_words}
 use Rattle.lsm_shell_parts.specs.declared.word.Words.{Words}
 use Rattle.std.specs.Bool.{then_some}
 

@@ -1,7 +1,7 @@
 // Words, and the words of a line.
 ghost use Rattle.std.specs.Prelude.{◌≡◌, [], ◌∷◌, MatchOption};
 ghost use Rattle.lsm_shell_parts.specs.Word.{is_word, parts_of, words_of};
-ghost use Rattle.lsm_shell_parts.specs.Words.{list_of_words, HasNoFewWords};
+ghost use Rattle.lsm_shell_parts.specs.FewWords.{list_of_words, HasNoFewWords};
 
 /// Whether these bytes are a word: one or more, each from 33 to 126.
 pub fn is_word(bytes: &[u8]) -> bool

@@ -1,9 +1,10 @@
 -- Calls of a tree behind a lock: what it was before is not known, nor what it is later.
-use Rattle.std.specs.Prelude.{◌≡◌, ℕ, List, false, Result}
+use Rattle.std.specs.Prelude.{◌≡◌, ℕ, List, true, false, Option, Result, IfOk, IfSome}
 use Rattle.lsm_below.specs.Keys.{Bytes}
 use Rattle.lsm_model.specs.declared.op.Op.{Op}
 use Rattle.lsm_commit.specs.Stored.{CountsFaults}
 use Rattle.lsm_below.specs.declared.error.Error.{Error}
+use Rattle.lsm_flush.specs.declared.jobs.Registered.{Registered}
 use Rattle.lsm_store.specs.World.{World}
 use Rattle.lsm_state.specs.Core.{Core, Seen}
 use Rattle.lsm_state.specs.Kept.{IsKeptTree}
@@ -11,7 +12,7 @@ use Rattle.lsm_state.specs.Commits.{UpholdsFiles}
 use Rattle.lsm_state.specs.Recording.{RecordsBatch}
 use Rattle.lsm_logged.specs.Keeping.{SeenLogged, IsKeptLogged, is_unsure, tree_of, AreKnown}
 use Rattle.lsm_logged.specs.Writing.{WritesLogged}
-use Rattle.lsm_logged.specs.Removing.{log_from_of, KeepsKnown, Passed}
+use Rattle.lsm_logged.specs.Removing.{log_from_of, AreGone, KeepsKnown, Passed}
 use Rattle.lsm_logged.specs.Flushing.{RemovesBehind}
 use Rattle.lsm_recorded.specs.Recorded.{SeenRecorded, IsKeptRecorded}
 use Rattle.lsm_state.specs.Files.{KeepsFiles}
@@ -72,14 +73,25 @@ pub record WritesRecorded {S : Type 0} (tells : Type 0) (world : S → World) (o
   pub upholds : tells → UpholdsFiles (world old.store) (world new.store) old.core new.core
   pub counts : CountsFaults (world old.store) (world new.store) r
 
+-- this holds where a flush was answered, and its clean-up came to its end; the same after a rotation, and where its job was registered
+abbrev pub OnceFlushed : Result (Option (ℕ × Registered)) Error → Type 0 → Type 0
+OnceFlushed r Q = IfOk r (λ a. IfSome a (λ p. p.1.cleaned ≡ true → Q))
+
+abbrev pub OnceFlushedActive : Result (Option ℕ × Option (ℕ × Registered)) (Error × Option ℕ) → Type 0 → Type 0
+OnceFlushedActive r Q = IfOk r (λ a. IfSome a.1 (λ p. p.1.cleaned ≡ true → Q))
+
+abbrev pub OnceRegistered : Result Registered Error → Type 0 → Type 0
+OnceRegistered r Q = IfOk r (λ a. a.installed ≡ true → a.cleaned ≡ true → Q)
+
 -- what a flush or a clear leaves of the log: a crash leaves a version that the tree had or has; only records that the version has
--- passed go, none before that version is on the disk, and each that is left is known
-pub record LeavesLog {S : Type 0} (tells : Type 0) (world : S → World) (old new : SeenLogged S) : Type 0 where
+-- passed go, none before that version is on the disk, all of them once it is cleaned up, and each that is left is known
+pub record LeavesLog {S : Type 0} (tells : Type 0) (world : S → World) (Once : Type 0 → Type 0) (old new : SeenLogged S) : Type 0 where
   pub upholds : tells → UpholdsFiles (world old.store) (world new.store) old.core new.core
   pub passes : tells → Passed (log_from_of new.core) (world old.store) (world new.store)
   pub behind : tells → RemovesBehind (world old.store) (world new.store) old.core new.core
   pub known : tells → KeepsKnown (world old.store) (world new.store) old.numbers new.numbers
+  pub gone : tells → Once (AreGone (world new.store) (log_from_of new.core) old.numbers)
 
 -- a call that may remove records, and did this to its files
-abbrev pub OnSomeLoggedRemoving : {S : Type 0} → Type 0 → (S → World) → OnFiles S → (SeenLogged S → SeenLogged S → Type 0) → Type 0
-OnSomeLoggedRemoving {S} tells world Files P = OnSomeLogged S (λ old new. P old new × LeavesLog tells world old new × Files tells world (tree_of old) (tree_of new))
+abbrev pub OnSomeLoggedRemoving : {S : Type 0} → Type 0 → (S → World) → (Type 0 → Type 0) → OnFiles S → (SeenLogged S → SeenLogged S → Type 0) → Type 0
+OnSomeLoggedRemoving {S} tells world Once Files P = OnSomeLogged S (λ old new. P old new × LeavesLog tells world Once old new × Files tells world (tree_of old) (tree_of new))

@@ -1,5 +1,5 @@
 // The calls of a logged tree behind the lock.
-ghost use Rattle.std.specs.Prelude.{◌≡◌, ◌+◌, ◌↔◌, ℕ, true, Option, IsTrue, length};
+ghost use Rattle.std.specs.Prelude.{◌≡◌, ◌+◌, ◌↔◌, ℕ, true, Option, IsTrue, OnOk, length};
 ghost use Rattle.lsm_below.specs.Sums.{capped};
 ghost use Rattle.lsm_compaction.specs.OpenMerges.{hides};
 ghost use Rattle.lsm_parts.specs.Held.{HasFirst};
@@ -41,7 +41,7 @@ impl<S: Store> Handle<Logged<S>> {
 
     /// Clears the tree, as `Logged::clear`. The lock is held while the version's file is written and records are removed.
     pub fn clear(&self, rt: &impl Wait) -> Result<SeqNo, Error>
-        ensures { OnSomeLoggedRemoving S.tells S.world (ClearsFiles result) (λ old new. ClearsLogged result old new) }
+        ensures { OnSomeLoggedRemoving S.tells S.world (OnOk result) (ClearsFiles result) (λ old new. ClearsLogged result old new) }
     {
         act!(self, rt, |tree| tree.clear())
     }

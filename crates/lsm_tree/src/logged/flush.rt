@@ -3,7 +3,7 @@ ghost use Rattle.std.specs.Prelude.{◌≡◌};
 ghost use Rattle.lsm_state.specs.Flushes.{spent};
 ghost use Rattle.lsm_logged.specs.Flushing.{FlushesLogged, FlushesBoth, BeginsLogged, WritesJobLogged, RegistersLogged};
 ghost use Rattle.lsm_state.specs.Files.{FlushesActiveFiles, FlushesFiles, RegistersFiles, WritesFiles};
-ghost use Rattle.lsm_tree.specs.Shared.{OnSomeLogged, TouchesTreeAlone, OnSomeLoggedFiles, OnSomeLoggedRemoving};
+ghost use Rattle.lsm_tree.specs.Shared.{OnSomeLogged, TouchesTreeAlone, OnSomeLoggedFiles, OnSomeLoggedRemoving, OnceFlushed, OnceFlushedActive, OnceRegistered};
 
 use crate::handle::Handle;
 use crate::lock::act;
@@ -37,7 +37,7 @@ impl<S: Store> Handle<Logged<S>> {
 
     /// Installs the tables of a job, or finds it stale, and removes the records that it passed, as `Logged::register_tables`.
     pub fn register_tables(&self, rt: &impl Wait, job: WrittenFlush) -> Result<Registered, Error>
-        ensures { OnSomeLoggedRemoving S.tells S.world (RegistersFiles job result) (λ old new. RegistersLogged job result old new) }
+        ensures { OnSomeLoggedRemoving S.tells S.world (OnceRegistered result) (RegistersFiles job result) (λ old new. RegistersLogged job result old new) }
     {
         act!(self, rt, |tree| tree.register_tables(job))
     }
@@ -56,7 +56,7 @@ impl<S: Store> Handle<Logged<S>> {
         rt: &impl Wait,
         watermark: SeqNo,
     ) -> Result<Option<(u64, Registered)>, Error>
-        ensures { OnSomeLoggedRemoving S.tells S.world (FlushesFiles result) (λ old new. FlushesLogged watermark result old new) }
+        ensures { OnSomeLoggedRemoving S.tells S.world (OnceFlushed result) (FlushesFiles result) (λ old new. FlushesLogged watermark result old new) }
     {
         act!(self, rt, |tree| tree.flush(watermark))
     }
@@ -68,7 +68,7 @@ impl<S: Store> Handle<Logged<S>> {
         rt: &impl Wait,
         watermark: SeqNo,
     ) -> Result<(Option<MemtableId>, Option<(u64, Registered)>), (Error, Option<MemtableId>)>
-        ensures { OnSomeLoggedRemoving S.tells S.world (FlushesActiveFiles result) (λ old new. FlushesBoth watermark result old new) }
+        ensures { OnSomeLoggedRemoving S.tells S.world (OnceFlushedActive result) (FlushesActiveFiles result) (λ old new. FlushesBoth watermark result old new) }
     {
         act!(self, rt, |tree| tree.flush_active_memtable(watermark))
     }

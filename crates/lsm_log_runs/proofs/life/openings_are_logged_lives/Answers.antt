@@ -1,4 +1,4 @@
-use Rattle.lsm_log_runs.proofs.Openings.{goes_on}
+use Rattle.lsm_log_runs.proofs.EndedOpening.{goes_on}
 use Rattle.lsm_log_runs.proofs.life.openings_are_logged_lives.Goals as goal
 
 pub returns : goal.returns
