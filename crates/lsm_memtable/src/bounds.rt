@@ -4,7 +4,7 @@ ghost use Rattle.lsm_below.specs.Lookups.{is_from, is_to, within};
 ghost use Rattle.lsm_memtable.specs.Blocks.{joined, AreBlocks, IsEdge};
 
 use crate::block::Block;
-use crate::blocks::{Place, find};
+use crate::block_list::{Place, find};
 use crate::iter::{between, whole};
 use crate::{Iter, Steps};
 use lsm_below::{UserKey, entries_are_parted};

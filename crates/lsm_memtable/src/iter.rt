@@ -7,7 +7,7 @@ ghost use Rattle.lsm_memtable.specs.Parts.{blocks_of};
 ghost use Rattle.lsm_memtable.specs.Iters.{TakesFirst, TakesLast};
 
 use crate::block::Block;
-use crate::blocks::Place;
+use crate::block_list::Place;
 use crate::part::Part;
 use lsm_below::{Headed, InternalValue, Stretch};
 use std::collections::VecDeque;

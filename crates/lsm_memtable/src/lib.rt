@@ -6,7 +6,7 @@
 //! | `spread` | items that move to two vectors, with one more at a place |
 //! | `arena` | chunks of memory that the keys and values of entries share |
 //! | `block` | up to 64 entries in order, with the heads of their keys |
-//! | `blocks` | blocks that together are one list: search, insert, split |
+//! | `block_list` | blocks that together are one list: search, insert, split |
 //! | `part` | blocks that follow each other, in the two slices that a ring has of them |
 //! | `bounds` | where bounds cut blocks |
 //! | `iter` | the entries between two places, from both ends |
@@ -16,7 +16,7 @@
 
 mod arena;
 mod block;
-mod blocks;
+mod block_list;
 mod bounds;
 mod iter;
 mod memtable;

@@ -11,7 +11,7 @@ ghost use Rattle.lsm_memtable.specs.Revoking.{TakesBack};
 
 use crate::arena::housed;
 use crate::block::Block;
-use crate::blocks::{Undo, first_visible, put_entry, take_all_back};
+use crate::block_list::{Undo, first_visible, put_entry, take_all_back};
 use crate::bounds::blocks_within;
 use crate::iter::whole;
 use crate::span::span_of;

@@ -8,7 +8,7 @@ ghost use Rattle.lsm_memtable.specs.Blocks.{joined, spot, AreBlocks, HasPlace};
 
 use crate::Iter;
 use crate::block::Block;
-use crate::blocks::Place;
+use crate::block_list::Place;
 use crate::bounds::{lower_place, upper_place};
 use crate::iter::{between, whole};
 use lsm_below::{UserKey, entries_are_parted};

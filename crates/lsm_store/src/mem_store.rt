@@ -10,15 +10,15 @@ ghost use Rattle.lsm_store.specs.Memory.{HeldAs, EachHeldAs, written_by, synced_
 ghost use Rattle.lsm_store.specs.Picks.{picked, Crashes, Restarts};
 
 mod content;
+mod directory;
 mod file;
-mod files;
 mod picks;
 mod plan;
 
 use crate::{Store, StoreError};
 use bytes::Bytes;
 use content::Content;
-use files::{
+use directory::{
     Files, content_of, doubt_file, end_by, names_of, remove_file, replace_by, settle_by, write_by,
 };
 pub use picks::Pick;

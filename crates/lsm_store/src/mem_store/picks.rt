@@ -6,8 +6,8 @@ ghost use Rattle.lsm_store.specs.Files.{held_at};
 ghost use Rattle.lsm_store.specs.Memory.{may_of};
 ghost use Rattle.lsm_store.specs.Picks.{pick_for, left_at, picked};
 
+use super::directory::{Files, put_file};
 use super::file::{Absence, File};
-use super::files::{Files, put_file};
 use std::alloc::{AllocError, Global};
 use std::collections::HashMap;
 
