@@ -11,7 +11,7 @@ use Rattle.lsm_below.specs.Entries.{Entry, entry_cmp}
 use Rattle.lsm_below.specs.Laws.{EntriesAreOrdered}
 use Rattle.lsm_below.specs.Lookups.{stands_before}
 use Rattle.lsm_below.specs.Sorted.{Rises, by_ordering}
-use Rattle.lsm_memtable.specs.declared.blocks.Undo.{Undo}
+use Rattle.lsm_memtable.specs.declared.block_list.Undo.{Undo}
 use Rattle.lsm_below.specs.declared.key.InternalKey.{InternalKey}
 use Rattle.lsm_memtable.specs.Undo.{Undoes, AreUndone, undo_of}
 use Rattle.lsm_memtable.specs.Blocks.{joined, spot, AreBlocks, IsPlace}

@@ -3,7 +3,7 @@ use Rattle.std.specs.Prelude.{◌≡◌, ℕ, ◌<◌, ◌≤◌, List, [], ◌�
 use Rattle.std.specs.List.{insert}
 use Rattle.lsm_below.specs.Entries.{Entry}
 use Rattle.lsm_below.specs.declared.key.InternalKey.{InternalKey}
-use Rattle.lsm_memtable.specs.declared.blocks.Undo.{Undo}
+use Rattle.lsm_memtable.specs.declared.block_list.Undo.{Undo}
 use Rattle.lsm_memtable.specs.Blocks.{AreEntries}
 
 -- what takes back a put under a key that replaced this entry, or none

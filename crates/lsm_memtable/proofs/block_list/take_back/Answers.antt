@@ -5,7 +5,7 @@ use Rattle.lsm_below.specs.Laws.{EntriesAreOrdered}
 use Rattle.lsm_below.specs.Sorted.{Rises}
 use Rattle.lsm_memtable.specs.Blocks.{joined, spot, AreBlocks, AreEntries, IsFilled, IsPlace}
 use Rattle.lsm_memtable.specs.Undo.{Undoes}
-use Rattle.lsm_memtable.specs.declared.blocks.Undo.{Undo}
+use Rattle.lsm_memtable.specs.declared.block_list.Undo.{Undo}
 use Rattle.lsm_memtable.proofs.Undone.{some_blocks, found_inside, back_replaced, back_removed}
 use Rattle.lsm_memtable.proofs.block_list.take_back.Goals as goal
 
