@@ -1,5 +1,5 @@
 -- Writes on their way into a tree, the marks and a journal.
-use Rattle.std.proofs.Common.{cond, ◌≡◌, ℕ, ◌<◌, ◌≤◌, Bool, true, false, ◌&&◌, nat_le, List, [], ◌∷◌, ◌++◌, suc, length, length-append, Result, Err, IsErrOf, OnErr, Ok, ◌↔◌, inl, inr, refl, sym, ap, ◌∙◌, arith}
+use Rattle.std.proofs.Common.{cond, ◌≡◌, ℕ, ◌<◌, ◌≤◌, Bool, true, false, ◌&&◌, nat_le, List, [], ◌∷◌, ◌++◌, suc, length, length-append, Result, Err, IsErrOf, OnErr, Ok, ◌↔◌, inl, inr, refl, sym, ap, subst, ◌∙◌, arith}
 use Rattle.std.specs.List.{list_all}
 use Rattle.std.proofs.lemmas.Bool.Decides.{nat_tests}
 use Rattle.lsm_below.specs.Keys.{Bytes}
@@ -30,6 +30,14 @@ own_by r e false P is told = inl (is ∙ ap Err told)
 pub refused_told : {A : Type 0} (r : Result A Error) (e : Error) (b a : Bool) → r ≡ Err e → e ≡ cond b OutOfMemory OutOfOrder → a ≡ b → (IsErrOf r OutOfOrder ↔ (a ≡ false))
 refused_told r e true a is told same = (λ q. absurd (cc (is, told, q)), λ q. absurd (cc (same, q)))
 refused_told r e false a is told same = (λ q. same, λ q. is ∙ ap Err told)
+
+-- a refusal that is handed on
+pub refusal_handed : {A B P : Type 0} (r : Result A Error) (s : Result B Error) (e x : Error) → r ≡ Err e → s ≡ Err e → (IsErrOf r x ↔ P) → (IsErrOf s x ↔ P)
+refusal_handed r s e x was is told = (λ h. let same : e ≡ x = cc (is, h) in told.0 (was ∙ ap Err same), λ p. let h = told.1 p in let same : e ≡ x = cc (was, h) in is ∙ ap Err same)
+
+-- an answer refuses nothing
+pub answer_told : {A B P : Type 0} (r : Result A Error) (s : Result B Error) (a : A) (b : B) (x : Error) → r ≡ Ok a → s ≡ Ok b → (IsErrOf r x ↔ P) → (IsErrOf s x ↔ P)
+answer_told r s a b x was is told = (λ h. absurd (cc (is, h)), λ p. let h = told.1 p in absurd (cc (was, h)))
 
 -- ---- an entry that is shared
 
@@ -63,7 +71,7 @@ floor_refuses marks low n [] one below = absurd (omega arith)
 floor_refuses marks low n (p ∷ ops) one below = ap (λ b. (b && mark_allows (marks p.0) n (op_type p.1)) && list_all (op_allowed marks low n) ops) (floor_false low n below)
 
 -- its order is that of the mark of its entry
-pub entry_allows : (marks : Bytes → Mark) (low n : ℕ) (ops : List (Bytes × Op)) (k : Bytes) (op : Op) (e : Entry) → ops ≡ (k, op) ∷ [] → e ≡ op_entry k n op → low ≤ n
+entry_allows : (marks : Bytes → Mark) (low n : ℕ) (ops : List (Bytes × Op)) (k : Bytes) (op : Op) (e : Entry) → ops ≡ (k, op) ∷ [] → e ≡ op_entry k n op → low ≤ n
     → list_all (op_allowed marks low n) ops ≡ mark_allows (marks e.key.user_key) e.key.seqno e.key.value_type
 entry_allows marks low n ops k op e one is up =
     ap (list_all (op_allowed marks low n)) one ∙ and_true (op_allowed marks low n (k, op)) ∙ ap (λ b. b && mark_allows (marks k) n (op_type op)) (floor_true low n up)
@@ -73,6 +81,11 @@ entry_allows marks low n ops k op e one is up =
     by_type (Set value) = refl
     by_type Del = refl
     by_type Weak = refl
+
+pub one_told : {A : Type 0} (r : Result A Error) (marks : Bytes → Mark) (low n m : ℕ) (ops : List (Bytes × Op)) (k : Bytes) (op : Op) (e : Entry) → m ≡ n → ops ≡ (k, op) ∷ [] → e ≡ op_entry k n op → low ≤ m
+    → (IsErrOf r OutOfOrder ↔ (mark_allows (marks e.key.user_key) e.key.seqno e.key.value_type ≡ false)) → (IsErrOf r OutOfOrder ↔ (list_all (op_allowed marks low n) ops ≡ false))
+one_told r marks low n m ops k op e first one is up told =
+    subst (λ b. IsErrOf r OutOfOrder ↔ (b ≡ false)) (sym (entry_allows marks low n ops k op e one is (subst (λ x. low ≤ x) first up))) told
 
 -- it has the sequence number that it was made with
 pub op_number : (k : Bytes) (n : ℕ) (op : Op) → (op_entry k n op).key.seqno ≡ n

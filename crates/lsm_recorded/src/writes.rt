@@ -1,11 +1,10 @@
 // Writes to a tree that are noted: in the marks of their keys, in a journal and in a pass.
-ghost use Rattle.std.specs.Prelude.{◌≡◌, ◌⊎◌, ◌↔◌, ◌+◌, ◌<◌, ◌≤◌, ◌∷◌, [], false, Err, map, length, vec_len, vec_capacity, OnOk, OnErr, IfOk, IsErrOf};
+ghost use Rattle.std.specs.Prelude.{◌≡◌, ◌⊎◌, ◌↔◌, ◌+◌, ◌^◌, ◌<◌, ◌≤◌, ◌∷◌, [], false, Err, map, length, vec_len, vec_capacity, OnOk, OnErr, IfOk, IsErrOf};
 ghost use Rattle.std.specs.List.{list_all};
 ghost use Rattle.lsm_below.specs.Keys.{Bytes};
 ghost use Rattle.lsm_below.specs.Entries.{plain};
-ghost use Rattle.lsm_model.specs.Ops.{op_entry, op_entries};
+ghost use Rattle.lsm_model.specs.Ops.{op_entries};
 ghost use Rattle.lsm_model.specs.declared.journal.JournalEntry.TheVariants.{Write as WriteEntry};
-ghost use Rattle.lsm_model.specs.declared.op.Op.{Op as OpOf};
 ghost use Rattle.lsm_state.specs.Calls.{Appends, WritesBatch};
 ghost use Rattle.lsm_recorded.specs.Marks.{mark_of, mark_allows, marked_by, marked_all, entry_allowed, op_allowed};
 ghost use Rattle.lsm_recorded.specs.Passes.{Notes};
@@ -20,7 +19,7 @@ use crate::raising::{raise_batch, take_back};
 use crate::shared_entry::SharedEntry;
 use lsm_below::{InternalValue, SeqNo, UserKey};
 use lsm_journal::write_entry;
-use lsm_model::{JournalEntry, Op};
+use lsm_model::Op;
 use lsm_parts::{Error, LIMIT};
 use lsm_state::TreeState;
 use lsm_store::Store;
@@ -50,6 +49,38 @@ fn append_noted<S: Store>(
     Ok(sizes)
 }
 
+/// Writes an entry that `TreeState::house` gave, as `append_noted`, and notes it in the mark of its key, which is looked up
+/// once. `OutOfOrder`, before all else, exactly where the mark tells that it breaks the order. Refused, it changes nothing but
+/// the room that there is.
+fn append_at_mark<S: Store>(
+    alloc: Global,
+    core: &mut TreeState<S>,
+    marks: &mut BTreeMap<MarkedKey, Mark>,
+    journal: &mut Vec<SharedEntry>,
+    pass: &mut Vec<(u64, SharedEntry)>,
+    entry: InternalValue,
+) -> Result<(u64, u64), Error>
+    requires { entry.key.seqno + 1 < 2 ^ 64 }
+    ensures out_of_order { IsErrOf result Error.OutOfOrder ↔ (mark_allows (mark_of marks.old entry.key.user_key) entry.key.seqno entry.key.value_type ≡ false) }
+    ensures core { OwnOr result (Appends (plain entry) result core.old.core core.new.core) }
+    ensures marks { OnOk result ((q : Bytes) → mark_of marks.new q ≡ marked_by entry (mark_of marks.old) q) }
+    ensures noted { OnOk result (Notes (WriteEntry (plain entry) ∷ []) journal.old.items journal.new.items pass.old.items pass.new.items) }
+    ensures unmarked { OnErr result ((q : Bytes) → mark_of marks.new q ≡ mark_of marks.old q) }
+    ensures store { core.new.store ≡ core.old.store }
+    ensures err { OnErr result ((core.new ≡ core.old) × (journal.new.items ≡ journal.old.items) × (pass.new.items ≡ pass.old.items)) }
+{
+    let number = entry.key.seqno;
+    let kind = entry.key.value_type;
+    let key = share_key(marks, &entry.key.user_key, number, kind)?;
+    let mark = marks.entry(key)?.or_insert(NOTHING);
+    if !is_allowed(*mark, number, kind) {
+        return Err(Error::OutOfOrder);
+    }
+    let sizes = append_noted(alloc, core, journal, pass, entry)?;
+    *mark = mark_after(*mark, number, kind);
+    Ok(sizes)
+}
+
 /// Writes an entry under its own sequence number, and notes it in the mark of its key, in a journal and in a pass.
 /// `OutOfOrder`, before all else, exactly where its mark, the floor or the counter tells that it breaks the order. Refused, it
 /// changes nothing but the room that there is.
@@ -71,93 +102,11 @@ pub(crate) fn append_marked<S: Store>(
     ensures err { OnErr result ((core.new ≡ core.old) × (journal.new.items ≡ journal.old.items) × (pass.new.items ≡ pass.old.items)) }
 {
     let number = entry.key.seqno;
-    let kind = entry.key.value_type;
     if number < floor || core.seqno().get() <= number {
         return Err(Error::OutOfOrder);
     }
     let entry = core.house(entry);
-    let key = share_key(marks, &entry.key.user_key, number, kind)?;
-    let mark = marks.entry(key)?.or_insert(NOTHING);
-    if !is_allowed(*mark, number, kind) {
-        return Err(Error::OutOfOrder);
-    }
-    let sizes = append_noted(alloc, core, journal, pass, entry)?;
-    *mark = mark_after(*mark, number, kind);
-    Ok(sizes)
-}
-
-/// Writes a batch of one, whose entry under the next sequence number `TreeState::house` gave, as `TreeState::write`. The
-/// cost and the errors are those of the tree's call.
-fn write_made<S: Store>(core: &mut TreeState<S>, entry: InternalValue) -> Result<SeqNo, Error>
-    ensures in_order { IsErrOf result Error.OutOfOrder → ⊥ }
-    ensures writes { (k : Bytes) (op : OpOf) → entry ≡ op_entry k core.old.core.seqno op → WritesBatch ((k, op) ∷ []) result core.old.core core.new.core }
-    ensures numbered { OnOk result (core.old.core.seqno < LIMIT) }
-    ensures store { core.new.store ≡ core.old.store }
-    ensures err { OnErr result (core.new ≡ core.old) }
-{
-    let number = core.seqno().get();
-    if number >= LIMIT {
-        return Err(Error::OutOfNumbers);
-    }
-    core.append_housed(entry)?;
-    core.seqno_mut().set(number + 1);
-    core.visible_seqno_mut().fetch_max(number + 1);
-    Ok(number)
-}
-
-/// Writes a batch of one, as `write_made`, and appends its entry to a journal and a pass, which share its bytes with the tree.
-/// Refused, it changes nothing.
-fn write_noted<S: Store>(
-    alloc: Global,
-    core: &mut TreeState<S>,
-    journal: &mut Vec<SharedEntry>,
-    pass: &mut Vec<(u64, SharedEntry)>,
-    entry: InternalValue,
-) -> Result<SeqNo, Error>
-    ensures in_order { IsErrOf result Error.OutOfOrder → ⊥ }
-    ensures core { (result ≡ Err Error.OutOfMemory) ⊎ ((k : Bytes) (op : OpOf) → entry ≡ op_entry k core.old.core.seqno op → WritesBatch ((k, op) ∷ []) result core.old.core core.new.core) }
-    ensures noted { OnOk result (Notes (WriteEntry entry ∷ []) journal.old.items journal.new.items pass.old.items pass.new.items) }
-    ensures numbered { OnOk result (core.old.core.seqno < LIMIT) }
-    ensures store { core.new.store ≡ core.old.store }
-    ensures err { OnErr result ((core.new ≡ core.old) × (journal.new.items ≡ journal.old.items) × (pass.new.items ≡ pass.old.items)) }
-{
-    let note = SharedEntry::new(alloc, JournalEntry::Write(entry.copy()?))?;
-    let copy = note.copy()?;
-    make_room(journal, pass, 1)?;
-    let number = write_made(core, entry)?;
-    put_entry(journal, pass, note, copy);
-    Ok(number)
-}
-
-/// Writes a batch of one, as `write_noted`, and notes it in the mark of its key, which is looked up once. `OutOfOrder`, before
-/// all else, exactly where the mark tells that it breaks the order.
-fn write_at_mark<S: Store>(
-    alloc: Global,
-    core: &mut TreeState<S>,
-    marks: &mut BTreeMap<MarkedKey, Mark>,
-    journal: &mut Vec<SharedEntry>,
-    pass: &mut Vec<(u64, SharedEntry)>,
-    entry: InternalValue,
-) -> Result<SeqNo, Error>
-    requires { entry.key.seqno ≡ core.old.core.seqno }
-    ensures out_of_order { IsErrOf result Error.OutOfOrder ↔ (mark_allows (mark_of marks.old entry.key.user_key) entry.key.seqno entry.key.value_type ≡ false) }
-    ensures core { OwnOr result ((k : Bytes) (op : OpOf) → entry ≡ op_entry k core.old.core.seqno op → WritesBatch ((k, op) ∷ []) result core.old.core core.new.core) }
-    ensures marks { OnOk result ((q : Bytes) → mark_of marks.new q ≡ marked_by entry (mark_of marks.old) q) }
-    ensures noted { OnOk result (Notes (WriteEntry entry ∷ []) journal.old.items journal.new.items pass.old.items pass.new.items) }
-    ensures unmarked { OnErr result ((q : Bytes) → mark_of marks.new q ≡ mark_of marks.old q) }
-    ensures store { core.new.store ≡ core.old.store }
-    ensures err { OnErr result ((core.new ≡ core.old) × (journal.new.items ≡ journal.old.items) × (pass.new.items ≡ pass.old.items)) }
-{
-    let number = entry.key.seqno;
-    let kind = entry.key.value_type;
-    let key = share_key(marks, &entry.key.user_key, number, kind)?;
-    let mark = marks.entry(key)?.or_insert(NOTHING);
-    if !is_allowed(*mark, number, kind) {
-        return Err(Error::OutOfOrder);
-    }
-    let written = write_noted(alloc, core, journal, pass, entry)?;
-    *mark = mark_after(*mark, number, kind);
-    Ok(written)
+    append_at_mark(alloc, core, marks, journal, pass, entry)
 }
 
 /// Writes a batch of one, as `write_marked`: its entry is made once, its bytes are copied once.
@@ -180,6 +129,10 @@ fn write_one<S: Store>(
     ensures err { OnErr result ((core.new ≡ core.old) × (journal.new.items ≡ journal.old.items) × (pass.new.items ≡ pass.old.items)) }
 {
     let number = core.seqno().get();
+    if number >= LIMIT {
+        admit_all(marks, floor, number, &ops)?;
+        return Err(Error::OutOfNumbers);
+    }
     if number < floor {
         return Err(Error::OutOfOrder);
     }
@@ -187,7 +140,10 @@ fn write_one<S: Store>(
         unreachable!()
     };
     let entry = core.house(op.into_entry(key, number));
-    write_at_mark(alloc, core, marks, journal, pass, entry)
+    append_at_mark(alloc, core, marks, journal, pass, entry)?;
+    core.seqno_mut().set(number + 1);
+    core.visible_seqno_mut().fetch_max(number + 1);
+    Ok(number)
 }
 
 /// What a batch of several needs beside the tree.

@@ -5,7 +5,7 @@ use Rattle.std.specs.BTreeMap.Entry.{map_with_value}
 use Rattle.lsm_recorded.specs.Marks.{mark_of, marked_by}
 use Rattle.lsm_recorded.proofs.MarksLemmas.{mark_found, mark_kept, mark_written}
 use Rattle.lsm_recorded.proofs.WritesLemmas.{on_err, own_by, refused_told}
-use Rattle.lsm_recorded.proofs.writes.write_at_mark.Goals as goal
+use Rattle.lsm_recorded.proofs.writes.append_at_mark.Goals as goal
 
 pub returns-in_err-key-clause-out_of_order : goal.returns-in_err-key-clause-out_of_order
 returns-in_err-key-clause-out_of_order g c =
@@ -23,8 +23,8 @@ returns-then-not-is_allowed-clause-unmarked g c q =
     mark_kept c.args.marks.now (map_with_value c.in_ok-marks.field-0 c.or_insert-mark.result.now) c.in_ok-key.key c.or_insert-mark.result.now _ c.or_insert-mark.ensures.value c.in_ok-marks.ensures.value (c.in_ok-marks.ensures.update.0 c.or_insert-mark.result.now).0 q in
     grind (arith, common_steps, same)
 
-pub returns-in_err-written-clause-unmarked : goal.returns-in_err-written-clause-unmarked
-returns-in_err-written-clause-unmarked g c = on_err c.from_residual-in_err-written.result (λ q.
+pub returns-in_err-sizes-clause-unmarked : goal.returns-in_err-sizes-clause-unmarked
+returns-in_err-sizes-clause-unmarked g c = on_err c.from_residual-in_err-sizes.result (λ q.
     let same : mark_of (map_with_value c.in_ok-marks.field-0 c.or_insert-mark.result.now) q ≡ mark_of c.args.marks.now q =
     mark_kept c.args.marks.now (map_with_value c.in_ok-marks.field-0 c.or_insert-mark.result.now) c.in_ok-key.key c.or_insert-mark.result.now _ c.or_insert-mark.ensures.value c.in_ok-marks.ensures.value (c.in_ok-marks.ensures.update.0 c.or_insert-mark.result.now).0 q in
     grind (arith, common_steps, same))
@@ -38,9 +38,3 @@ returns-clause-marks g c q =
     let written : mark_of (map_with_value c.in_ok-marks.field-0 w) q ≡ marked_by entry (mark_of c.args.marks.now) q =
     mark_written c.args.marks.now (map_with_value c.in_ok-marks.field-0 w) c.in_ok-key.key entry.key.user_key m w entry.key.seqno entry.key.value_type c.in_ok-key.ensures.ok found c.mark_after.ensures (c.in_ok-marks.ensures.update.0 w).0 q in
     grind (arith, common_steps, written)
-
-pub mark_after-requires : goal.mark_after-requires
-mark_after-requires g c =
-    let small = c.in_ok-written.ensures.numbered in
-    let first = c.requires in
-    omega arith
