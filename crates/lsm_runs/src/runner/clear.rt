@@ -1,9 +1,7 @@
 // A clear, and how unflushed entries are forgotten, as steps.
-ghost use Rattle.std.specs.Prelude.{◌≡◌, IfOk, OnErr, IsSome};
+ghost use Rattle.std.specs.Prelude.{◌≡◌, IfOk, OnErr};
 ghost use Rattle.lsm_runs.specs.Clearing.{TakesClear, TakesForget, told_clear};
-ghost use Rattle.lsm_commit.specs.Causes.{HasCause};
-ghost use Rattle.lsm_state.specs.Commits.{Upholds};
-ghost use Rattle.lsm_runs.specs.Causes.{ReplyBlames};
+ghost use Rattle.lsm_runs.specs.Files.{MindsFiles};
 
 use super::{refused, silent};
 use crate::{Outcome, Reply};
@@ -32,9 +30,7 @@ pub(super) fn clear<S: Store>(
 ) -> Result<Outcome, AllocError>
     ensures ok { IfOk result (λ told. TakesClear told.reply told.entries state.old.core state.new.core) }
     ensures err { OnErr result (state.new ≡ state.old) }
-    ensures upholds { S.tells → Upholds (S.world state.old.store) (S.world state.new.store) state.old.core state.new.core }
-    ensures causes { IfOk result (λ told. HasCause (ReplyBlames told.reply) (S.world state.old.store) (S.world state.new.store)) }
-    ensures no_call { IsSome state.old.core.lost → state.new.store ≡ state.old.store }
+    ensures files { MindsFiles result S.tells S.world state.old state.new }
 {
     state.is_upheld();
     let entries = clear_entries(alloc, state.seqno().get())?;

@@ -4,6 +4,7 @@ ghost use Rattle.lsm_runs.specs.Flushing.{TakesBegin, TakesRun, TakesTables, Tak
 ghost use Rattle.lsm_commit.specs.Causes.{HasCause};
 ghost use Rattle.lsm_state.specs.Commits.{Upholds};
 ghost use Rattle.lsm_runs.specs.Causes.{ReplyBlames};
+ghost use Rattle.lsm_runs.specs.Files.{MindsFiles};
 
 use super::{refused, silent};
 use crate::slots::Job;
@@ -115,9 +116,7 @@ pub(super) fn register_tables<S: Store>(
 ) -> Result<Outcome, AllocError>
     ensures ok { IfOk result (λ told. TakesRegister told.reply told.entries place.old place.new state.old.core state.new.core) }
     ensures err { OnErr result ((state.new ≡ state.old) × (place.new ≡ place.old)) }
-    ensures upholds { S.tells → Upholds (S.world state.old.store) (S.world state.new.store) state.old.core state.new.core }
-    ensures causes { IfOk result (λ told. HasCause (ReplyBlames told.reply) (S.world state.old.store) (S.world state.new.store)) }
-    ensures no_call { IsSome state.old.core.lost → state.new.store ≡ state.old.store }
+    ensures files { MindsFiles result S.tells S.world state.old state.new }
 {
     state.is_upheld();
     let job = match place.take() {
@@ -183,9 +182,7 @@ pub(super) fn flush<S: Store>(
 ) -> Result<Outcome, AllocError>
     ensures ok { IfOk result (λ told. TakesFlush watermark told.reply told.entries state.old.core state.new.core) }
     ensures err { OnErr result (state.new ≡ state.old) }
-    ensures upholds { S.tells → Upholds (S.world state.old.store) (S.world state.new.store) state.old.core state.new.core }
-    ensures causes { IfOk result (λ told. HasCause (ReplyBlames told.reply) (S.world state.old.store) (S.world state.new.store)) }
-    ensures no_call { IsSome state.old.core.lost → state.new.store ≡ state.old.store }
+    ensures files { MindsFiles result S.tells S.world state.old state.new }
 {
     state.is_upheld();
     let entries = flush_entries(alloc, watermark, state.seqno().get())?;
@@ -214,9 +211,7 @@ pub(super) fn flush_active<S: Store>(
 ) -> Result<Outcome, AllocError>
     ensures ok { IfOk result (λ told. TakesFlushActive watermark told.reply told.entries state.old.core state.new.core) }
     ensures err { OnErr result (state.new ≡ state.old) }
-    ensures upholds { S.tells → Upholds (S.world state.old.store) (S.world state.new.store) state.old.core state.new.core }
-    ensures causes { IfOk result (λ told. HasCause (ReplyBlames told.reply) (S.world state.old.store) (S.world state.new.store)) }
-    ensures no_call { IsSome state.old.core.lost → state.new.store ≡ state.old.store }
+    ensures files { MindsFiles result S.tells S.world state.old state.new }
 {
     state.is_upheld();
     let entries = flush_entries(alloc, watermark, state.seqno().get())?;

@@ -7,7 +7,11 @@ returns-clause-ok g c =
     let flushed = c.flush_active_noting-entries in
     rw c.of_active.ensures (active_taken c.args.watermark flushed.result.0 flushed.result.1.items c.args.state.now.core flushed.new.tree.core flushed.ensures.flushes)
 
-pub returns-clause-causes : goal.returns-clause-causes
-returns-clause-causes g c =
+pub returns-clause-files : goal.returns-clause-files
+returns-clause-files g c =
     let flushed = c.flush_active_noting-entries in
-    rw c.of_active.ensures (active_cause flushed.result.1.items flushed.result.0 _ _ flushed.ensures.files.causes)
+    record {
+      upholds = flushed.ensures.upholds;
+      causes = rw c.of_active.ensures (active_cause flushed.result.1.items flushed.result.0 _ _ flushed.ensures.files.causes);
+      no_call = flushed.ensures.files.no_call;
+    }
