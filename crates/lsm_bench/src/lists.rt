@@ -32,10 +32,13 @@ pub fn list<S: Store>(
     let few = &ids[..ids.len().min(MOST_OPEN_RANGES)];
     let (ops, check) = match listing {
         Listing::All => (ids.len(), list_all(tree, snapshot)?),
-        Listing::Ranges => (some.len(), list_ranges(alloc, tree, way, some, snapshot)?),
+        Listing::Ranges => (
+            some.len(),
+            list_ranges(alloc, tree, way, false, some, snapshot)?,
+        ),
         Listing::OpenRanges => (
             few.len(),
-            list_open_ranges(alloc, tree, way, few, snapshot)?,
+            list_ranges(alloc, tree, way, true, few, snapshot)?,
         ),
         Listing::Groups => (some.len(), list_groups(tree, way, some, snapshot)?),
         lent => return list_lent(alloc, tree, lent, ids.len(), some),
@@ -55,10 +58,13 @@ fn list_lent<S: Store>(
     let snapshot = tree.visible_seqno().get();
     let (ops, check) = match listing {
         Listing::PairsBack => (all, lend_back(tree, snapshot)?),
-        Listing::PairRanges => (some.len(), list_ranges(alloc, tree, way, some, snapshot)?),
+        Listing::PairRanges => (
+            some.len(),
+            list_ranges(alloc, tree, way, false, some, snapshot)?,
+        ),
         Listing::PairOpenRanges => (
             some.len(),
-            list_open_ranges(alloc, tree, way, some, snapshot)?,
+            list_ranges(alloc, tree, way, true, some, snapshot)?,
         ),
         Listing::PairGroups => (some.len(), list_groups(tree, way, some, snapshot)?),
         _ => (all, lend_all(tree, snapshot)?),
@@ -88,36 +94,25 @@ fn lend_back<S: Store>(tree: &TreeState<S>, snapshot: SeqNo) -> Result<u64, Erro
 
 // ---- ranges and groups
 
+/// Lists a range from each id on. An open one has no upper bound, and as many entries are taken of it as the other has ids.
 fn list_ranges<S: Store>(
     alloc: Global,
     tree: &TreeState<S>,
     way: Way,
+    is_open: bool,
     ids: &[u64],
     snapshot: SeqNo,
 ) -> Result<u64, Error> {
+    let most = if is_open { RANGE } else { u64::MAX };
     let mut sum = 0u64;
     for id in ids {
         let low = Bound::Included(user_key(alloc, *id)?);
-        let high = Bound::Excluded(user_key(alloc, id.saturating_add(RANGE))?);
-        let bounds = (low, high);
-        sum = sum.wrapping_add(sum_range(tree, way, &bounds, snapshot, u64::MAX)?);
-    }
-    Ok(sum)
-}
-
-/// As `list_ranges`, but no range has an upper bound, and as many entries are taken of it.
-fn list_open_ranges<S: Store>(
-    alloc: Global,
-    tree: &TreeState<S>,
-    way: Way,
-    ids: &[u64],
-    snapshot: SeqNo,
-) -> Result<u64, Error> {
-    let mut sum = 0u64;
-    for id in ids {
-        let low = Bound::Included(user_key(alloc, *id)?);
-        let bounds = (low, Bound::Unbounded);
-        sum = sum.wrapping_add(sum_range(tree, way, &bounds, snapshot, RANGE)?);
+        let high = if is_open {
+            Bound::Unbounded
+        } else {
+            Bound::Excluded(user_key(alloc, id.saturating_add(RANGE))?)
+        };
+        sum = sum.wrapping_add(sum_range(tree, way, &(low, high), snapshot, most)?);
     }
     Ok(sum)
 }
