@@ -25,7 +25,7 @@ StaysStored w w' old new = IsStored w (versions_left old) (written_of old) → I
 
 -- what a step that touches the store does: a crash leaves a version that the tree had or has, the reply blames the store only where
 -- a call of it failed, and after a commit of unknown outcome none is made
-pub record MindsFiles {S E : Type 0} (r : Result Told E) (tells : Type 0) (world : S → World) (old new : Seen S) : Type 0 where
+pub record TouchesFiles {S E : Type 0} (r : Result Told E) (tells : Type 0) (world : S → World) (old new : Seen S) : Type 0 where
   pub upholds : tells → Upholds (world old.store) (world new.store) old.core new.core
   pub causes : IfOk r (λ told. HasCause (ReplyBlames told.reply) (world old.store) (world new.store))
   pub no_call : IsSome old.core.lost → new.store ≡ old.store

@@ -1,9 +1,10 @@
 // What is counted and told of a tree behind the lock, whatever stands above it.
-ghost use Rattle.std.specs.Prelude.{◌≡◌, ◌+◌, ◌++◌, [], IfErr, IfOk, length, slice_get, slice_index_or, option_map};
+ghost use Rattle.std.specs.Prelude.{◌≡◌, ◌+◌, ◌++◌, ◌↔◌, ℕ, true, [], IfErr, IfOk, IsTrue, length, slice_get, slice_index_or, option_map};
 ghost use Rattle.lsm_below.specs.Optimizes.{tables_of};
 ghost use Rattle.lsm_below.specs.Sums.{capped};
 ghost use Rattle.lsm_tables.specs.Tables.{tombstones, weak_tombstones, reclaimable};
 ghost use Rattle.lsm_memtable.specs.Memtables.{highest_of};
+ghost use Rattle.lsm_compaction.specs.OpenMerges.{hides};
 ghost use Rattle.lsm_versions.specs.Levels.{all_of, bytes_of};
 ghost use Rattle.lsm_versions.specs.declared.version.TreeType.TheVariants.{Standard};
 ghost use Rattle.lsm_parts.specs.History.{named_size};
@@ -105,6 +106,13 @@ impl<C: HasTree> Handle<C> {
         ensures memory { IfErr result (λ e. e ≡ Error.OutOfMemory) }
     {
         read_tree!(self, rt, |tree| Ok(tree.current_version().copy(alloc)?))
+    }
+
+    /// Whether an open merge works on a table.
+    pub fn is_compacting(&self, rt: &impl Wait) -> bool
+        ensures { AtSomeTree (λ c. IsTrue result ↔ ((i : ℕ) × (hides c.merges.underway i ≡ true))) }
+    {
+        read_tree!(self, rt, |tree| tree.is_compacting())
     }
 
     /// The id that the next table gets.

@@ -1,7 +1,6 @@
 // The calls of a logged tree behind the lock.
-ghost use Rattle.std.specs.Prelude.{◌≡◌, ◌+◌, ◌↔◌, ℕ, true, Option, IsTrue, OnOk, length};
+ghost use Rattle.std.specs.Prelude.{◌≡◌, ◌+◌, Option, OnOk, length};
 ghost use Rattle.lsm_below.specs.Sums.{capped};
-ghost use Rattle.lsm_compaction.specs.OpenMerges.{hides};
 ghost use Rattle.lsm_parts.specs.Held.{HasFirst};
 ghost use Rattle.lsm_state.specs.WholeFlushes.{sealed_bytes};
 ghost use Rattle.lsm_state.specs.Flushes.{with_next_table};
@@ -12,11 +11,11 @@ ghost use Rattle.lsm_state.specs.Files.{ClearsFiles};
 ghost use Rattle.lsm_tree.specs.Shared.{OnSomeLogged, AtSomeTree, AtSomeLogged, TouchesTreeAlone, WritesRecorded, OnSomeLoggedRemoving};
 
 use crate::handle::Handle;
-use crate::lock::{act, read, read_tree};
+use crate::lock::{act, read};
 use lsm_below::{MemtableId, SeqNo, TableId, UserKey};
 use lsm_logged::Logged;
 use lsm_model::Op;
-use lsm_parts::{Error, LIMIT};
+use lsm_parts::Error;
 use lsm_store::Store;
 use std::sync::Wait;
 
@@ -69,13 +68,6 @@ impl<S: Store> Handle<Logged<S>> {
         ensures { AtSomeLogged S (λ t. result ≡ is_unsure t) }
     {
         read!(self, rt, |tree| tree.is_uncertain())
-    }
-
-    /// Whether an open merge works on a table, as `TreeState::is_compacting`.
-    pub fn is_compacting(&self, rt: &impl Wait) -> bool
-        ensures { AtSomeTree (λ c. IsTrue result ↔ ((i : ℕ) × (hides c.merges.underway i ≡ true))) }
-    {
-        read_tree!(self, rt, |tree| tree.is_compacting())
     }
 
     /// How many records may be in the store, as `Logged::log_len`.

@@ -1,7 +1,7 @@
 // A clear, and how unflushed entries are forgotten, as steps.
 ghost use Rattle.std.specs.Prelude.{◌≡◌, IfOk, OnErr};
 ghost use Rattle.lsm_runs.specs.Clearing.{TakesClear, TakesForget, told_clear};
-ghost use Rattle.lsm_runs.specs.Files.{MindsFiles};
+ghost use Rattle.lsm_runs.specs.Files.{TouchesFiles};
 
 use super::{refused, silent};
 use crate::{Outcome, Reply};
@@ -30,7 +30,7 @@ pub(super) fn clear<S: Store>(
 ) -> Result<Outcome, AllocError>
     ensures ok { IfOk result (λ told. TakesClear told.reply told.entries state.old.core state.new.core) }
     ensures err { OnErr result (state.new ≡ state.old) }
-    ensures files { MindsFiles result S.tells S.world state.old state.new }
+    ensures files { TouchesFiles result S.tells S.world state.old state.new }
 {
     state.is_upheld();
     let entries = clear_entries(alloc, state.seqno().get())?;

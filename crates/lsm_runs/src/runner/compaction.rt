@@ -9,7 +9,7 @@ ghost use Rattle.lsm_runs.specs.ReadSteps.{TakesSilent};
 ghost use Rattle.lsm_commit.specs.Causes.{HasCause, Blames};
 ghost use Rattle.lsm_state.specs.Commits.{Upholds};
 ghost use Rattle.lsm_runs.specs.Causes.{ReplyBlames};
-ghost use Rattle.lsm_runs.specs.Files.{MindsFiles};
+ghost use Rattle.lsm_runs.specs.Files.{TouchesFiles};
 
 use super::{refused, silent};
 use crate::replies::{of_begun, of_finished};
@@ -54,7 +54,7 @@ pub(super) fn begin_compaction<S: Store>(
 ) -> Result<Outcome, AllocError>
     ensures ok { IfOk result (λ told. TakesBeginCompaction (strategies_of (λ b. may_choose b) (λ b. may_refuse b) strategies.now) at options told.reply told.entries place.old place.new state.old.core state.new.core) }
     ensures err { OnErr result ((state.new ≡ state.old) × (place.new ≡ place.old)) }
-    ensures files { MindsFiles result S.tells S.world state.old state.new }
+    ensures files { TouchesFiles result S.tells S.world state.old state.new }
 {
     state.is_upheld();
     if place.is_some() {
@@ -103,7 +103,7 @@ pub(super) fn finish_compaction<S: Store>(
 ) -> Result<Outcome, AllocError>
     ensures ok { IfOk result (λ told. TakesFinish told.reply told.entries place.old place.new state.old.core state.new.core) }
     ensures err { OnErr result ((state.new ≡ state.old) × (place.new ≡ place.old)) }
-    ensures files { MindsFiles result S.tells S.world state.old state.new }
+    ensures files { TouchesFiles result S.tells S.world state.old state.new }
 {
     state.is_upheld();
     let entries = finish_entries(alloc, state.seqno().get())?;
@@ -163,7 +163,7 @@ pub(super) fn do_compaction<S: Store>(
 ) -> Result<Outcome, AllocError>
     ensures ok { IfOk result (λ told. TakesCompact (strategies_of (λ b. may_choose b) (λ b. may_refuse b) strategies.now) at options told.reply told.entries state.old.core state.new.core) }
     ensures err { OnErr result (state.new ≡ state.old) }
-    ensures files { MindsFiles result S.tells S.world state.old state.new }
+    ensures files { TouchesFiles result S.tells S.world state.old state.new }
 {
     state.is_upheld();
     let Some(strategy) = strategies.get(at) else {
@@ -182,7 +182,7 @@ pub(super) fn compact<S: Store>(
 ) -> Result<Outcome, AllocError>
     ensures ok { IfOk result (λ told. TakesCompact (strategies_of (λ b. may_choose b) (λ b. may_refuse b) strategies.now) at (options_at watermark state.old.core) told.reply told.entries state.old.core state.new.core) }
     ensures err { OnErr result (state.new ≡ state.old) }
-    ensures files { MindsFiles result S.tells S.world state.old state.new }
+    ensures files { TouchesFiles result S.tells S.world state.old state.new }
 {
     let options = options_at(state, watermark);
     do_compaction(alloc, state, strategies, at, options)
@@ -197,7 +197,7 @@ fn compact_with<S: Store, C: CompactionStrategy>(
 ) -> Result<Outcome, AllocError>
     ensures ok { IfOk result (λ told. CompactsFrom (C.may_choose strategy.now) (C.may_refuse strategy.now) (options_at watermark state.old.core) told.reply told.entries state.old.core state.new.core) }
     ensures err { OnErr result (state.new ≡ state.old) }
-    ensures files { MindsFiles result S.tells S.world state.old state.new }
+    ensures files { TouchesFiles result S.tells S.world state.old state.new }
 {
     state.is_upheld();
     let options = options_at(state, watermark);
@@ -213,7 +213,7 @@ pub(super) fn major_compact<S: Store>(
 ) -> Result<Outcome, AllocError>
     ensures ok { IfOk result (λ told. TakesMajor target watermark told.reply told.entries state.old.core state.new.core) }
     ensures err { OnErr result (state.new ≡ state.old) }
-    ensures files { MindsFiles result S.tells S.world state.old state.new }
+    ensures files { TouchesFiles result S.tells S.world state.old state.new }
 {
     compact_with(alloc, state, &Major::new(target), watermark)
 }
@@ -233,7 +233,7 @@ pub(super) fn drop_range<S: Store>(
 ) -> Result<Outcome, AllocError>
     ensures ok { IfOk result (λ told. TakesDropRange (record { start = low.now; end = high.now }) told.reply told.entries state.old.core state.new.core) }
     ensures err { OnErr result (state.new ≡ state.old) }
-    ensures files { MindsFiles result S.tells S.world state.old state.new }
+    ensures files { TouchesFiles result S.tells S.world state.old state.new }
 {
     state.is_upheld();
     let bounds = OwnedBounds {

@@ -4,7 +4,7 @@ ghost use Rattle.lsm_runs.specs.Flushing.{TakesBegin, TakesRun, TakesTables, Tak
 ghost use Rattle.lsm_commit.specs.Causes.{HasCause};
 ghost use Rattle.lsm_state.specs.Commits.{Upholds};
 ghost use Rattle.lsm_runs.specs.Causes.{ReplyBlames};
-ghost use Rattle.lsm_runs.specs.Files.{MindsFiles};
+ghost use Rattle.lsm_runs.specs.Files.{TouchesFiles};
 
 use super::{refused, silent};
 use crate::slots::Job;
@@ -116,7 +116,7 @@ pub(super) fn register_tables<S: Store>(
 ) -> Result<Outcome, AllocError>
     ensures ok { IfOk result (λ told. TakesRegister told.reply told.entries place.old place.new state.old.core state.new.core) }
     ensures err { OnErr result ((state.new ≡ state.old) × (place.new ≡ place.old)) }
-    ensures files { MindsFiles result S.tells S.world state.old state.new }
+    ensures files { TouchesFiles result S.tells S.world state.old state.new }
 {
     state.is_upheld();
     let job = match place.take() {
@@ -182,7 +182,7 @@ pub(super) fn flush<S: Store>(
 ) -> Result<Outcome, AllocError>
     ensures ok { IfOk result (λ told. TakesFlush watermark told.reply told.entries state.old.core state.new.core) }
     ensures err { OnErr result (state.new ≡ state.old) }
-    ensures files { MindsFiles result S.tells S.world state.old state.new }
+    ensures files { TouchesFiles result S.tells S.world state.old state.new }
 {
     state.is_upheld();
     let entries = flush_entries(alloc, watermark, state.seqno().get())?;
@@ -211,7 +211,7 @@ pub(super) fn flush_active<S: Store>(
 ) -> Result<Outcome, AllocError>
     ensures ok { IfOk result (λ told. TakesFlushActive watermark told.reply told.entries state.old.core state.new.core) }
     ensures err { OnErr result (state.new ≡ state.old) }
-    ensures files { MindsFiles result S.tells S.world state.old state.new }
+    ensures files { TouchesFiles result S.tells S.world state.old state.new }
 {
     state.is_upheld();
     let entries = flush_entries(alloc, watermark, state.seqno().get())?;

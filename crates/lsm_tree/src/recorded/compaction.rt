@@ -1,17 +1,16 @@
 // The calls of a compaction, of a tree with its journal behind the lock.
-ghost use Rattle.std.specs.Prelude.{◌≡◌, ◌⊎◌, ◌↔◌, ℕ, true, Err, IfOk, IfErr, IsTrue};
-ghost use Rattle.lsm_compaction.specs.OpenMerges.{hides};
+ghost use Rattle.std.specs.Prelude.{◌≡◌, ◌⊎◌, Err, IfOk, IfErr};
 ghost use Rattle.lsm_state.specs.Compactions.{Spends};
 ghost use Rattle.lsm_state.specs.WholeCompactions.{options_at, only_memory, major_choice};
 ghost use Rattle.lsm_recorded.specs.Flushing.{SpendsUnnoted};
 ghost use Rattle.lsm_recorded.specs.Compacting.{BeginsRecorded, FinishesRecorded, CompactsRecorded, DropsRecorded};
 ghost use Rattle.lsm_state.specs.Files.{BeginsFiles, CompactsFiles, FinishesFiles};
-ghost use Rattle.lsm_tree.specs.Shared.{OnSomeTreeAlone, AtSomeTree, OnSomeRecordedFiles};
+ghost use Rattle.lsm_tree.specs.Shared.{OnSomeTreeAlone, OnSomeRecordedFiles};
 ghost use Rattle.lsm_tree.specs.Gates.{IsNoJob, EndsGatedRecorded, CompactsGatedRecorded};
 
 use crate::gate::{Gate, follow, told_end};
 use crate::handle::Handle;
-use crate::lock::{act, read};
+use crate::lock::act;
 use lsm_below::SeqNo;
 use lsm_compaction::{CompactionJob, MergedCompaction};
 use lsm_parts::Error;
@@ -173,12 +172,5 @@ impl<S: Store> Handle<Recorded<S>> {
         ensures { OnSomeRecordedFiles S.tells S.world (CompactsFiles result) (λ old new. DropsRecorded bounds result old new pass.old pass.new) }
     {
         act!(self, rt, |tree| tree.drop_range(pass, bounds))
-    }
-
-    /// Whether an open merge works on a table, as `Recorded::is_compacting`.
-    pub fn is_compacting(&self, rt: &impl Wait) -> bool
-        ensures { AtSomeTree (λ c. IsTrue result ↔ ((i : ℕ) × (hides c.merges.underway i ≡ true))) }
-    {
-        read!(self, rt, |tree| tree.is_compacting())
     }
 }

@@ -1,15 +1,14 @@
 // The calls of a compaction, of a tree behind the lock.
-ghost use Rattle.std.specs.Prelude.{◌≡◌, ◌↔◌, ℕ, true, Err, IfOk, IfErr, IsTrue};
-ghost use Rattle.lsm_compaction.specs.OpenMerges.{hides};
+ghost use Rattle.std.specs.Prelude.{◌≡◌, Err, IfOk, IfErr};
 ghost use Rattle.lsm_state.specs.Compactions.{BeginsChoice, BeginsCompaction, Finishes, Spends};
 ghost use Rattle.lsm_state.specs.WholeCompactions.{Compacts, DropsRange, options_at, only_memory, major_choice};
 ghost use Rattle.lsm_state.specs.Files.{BeginsFiles, CompactsFiles, FinishesFiles};
-ghost use Rattle.lsm_tree.specs.Shared.{OnSomeTreeAlone, AtSomeTree, OnSomeTreeFiles};
+ghost use Rattle.lsm_tree.specs.Shared.{OnSomeTreeAlone, OnSomeTreeFiles};
 ghost use Rattle.lsm_tree.specs.Gates.{IsNoJob, EndsGated, CompactsGated};
 
 use crate::gate::{Gate, follow, told_end};
 use crate::handle::Handle;
-use crate::lock::{act, read};
+use crate::lock::act;
 use lsm_below::SeqNo;
 use lsm_compaction::{CompactionJob, MergedCompaction};
 use lsm_parts::Error;
@@ -182,12 +181,5 @@ impl<S: Store> Handle<TreeState<S>> {
         ensures { OnSomeTreeFiles S.tells S.world (CompactsFiles result) (λ old new. DropsRange bounds result old new) }
     {
         act!(self, rt, |tree| tree.drop_range(bounds))
-    }
-
-    /// Whether an open merge works on a table, as `TreeState::is_compacting`.
-    pub fn is_compacting(&self, rt: &impl Wait) -> bool
-        ensures { AtSomeTree (λ c. IsTrue result ↔ ((i : ℕ) × (hides c.merges.underway i ≡ true))) }
-    {
-        read!(self, rt, |tree| tree.is_compacting())
     }
 }
