@@ -15,13 +15,13 @@ use Rattle.lsm_manifest.specs.Names.{current_name}
 use Rattle.lsm_log.specs.declared.record.Record.{Record}
 use Rattle.lsm_log.specs.LogNames.{record_name}
 use Rattle.lsm_log.specs.Logs.{IsRecordAt, IsLogFrom}
-use Rattle.lsm_log_model.specs.Logs.{Logged as Log, IsBatched}
 use Rattle.lsm_log_model.specs.Records.{LogImage, LogStands}
-use Rattle.lsm_log_model.specs.Replays.{IsReopened, TablesAloneStand}
+use Rattle.lsm_log_model.specs.Replays.{TablesAloneStand}
 use Rattle.lsm_state.specs.Core.{Core}
-use Rattle.lsm_logged.specs.Keeping.{SeenLogged, is_unsure, IsLogOf, KeepsLog}
+use Rattle.lsm_logged.specs.Keeping.{SeenLogged, is_unsure, IsLogOf}
 use Rattle.lsm_logged.specs.Opening.{OpensLogged, CanBeSettled, IsReopenedLog, batch_read, image_read, version_of}
-use Rattle.lsm_logged.specs.Writing.{WritesLogged, WritesAct, batch_of}
+use Rattle.lsm_logged.specs.Writing.{WritesLogged, WritesAct}
+use Rattle.example_log.specs.Written.{HasOne, fresh_image}
 
 -- ---- a new store
 
@@ -31,10 +31,6 @@ no_records image from passed records none log = go records log.records_are
     go : (rs : List Record) → AllByRecursion (λ r. IsRecordAt image r.number r) rs → rs ≡ []
     go [] h = refl
     go (r ∷ rs) h = let file = h.0.file in absurd (cc (sym (none (record_name r.number)) ∙ file))
-
--- nothing, read from this number on
-abbrev pub fresh_image : ℕ → LogImage
-fresh_image from = record { tables = []; log_from = from; records = [] }
 
 abbrev imaged : List Placed → ℕ → List Record → LogImage
 imaged tables from records = record { tables = tables; log_from = from; records = map batch_read records }
@@ -46,19 +42,6 @@ pub fresh_stands : TablesAloneStand → (from : ℕ) → LogStands (fresh_image 
 fresh_stands tables from = (tables [] from no_tables_stand (omega arith)).0
 
 -- ---- the batch
-
--- a tree without tables that has one batch, which is recorded in its store
-pub record HasOne (ops : List (Bytes × Op)) (c : Core) (w : World) : Type 0 where
-  pub number : ℕ
-  pub from : ℕ
-  pub first : Log
-  pub reopened : IsReopened (fresh_image from) first
-  pub log : Log
-  pub act : IsBatched [] first (batch_of number ops) log
-  pub is : IsLogOf (map Write (op_entries number ops)) [] c false log
-  pub keeps : KeepsLog w log
-  pub certain : c.lost ≡ None
-  pub levels : c.history.latest.version.levels ≡ empty_levels
 
 module _ {S : Type 0} (world : S → World) (store : S) (config : Config) (t u : SeenLogged S) (ops : List (Bytes × Op)) (n : ℕ) (tables : TablesAloneStand) (opens : OpensLogged (Unit {0}) world store config t) (new : Begins (λ _. None) (world store))
     (fresh_levels : (world store).gives current_name ≡ None → (version_of t).levels ≡ empty_levels) (settle : CanBeSettled (world store) (version_of t).log_from) (writes : WritesLogged ops (Ok n) t u) (acts : WritesAct ops (Ok n) (world t.store) (world u.store) t u) where

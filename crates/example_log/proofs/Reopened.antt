@@ -43,7 +43,8 @@ use Rattle.lsm_logged.specs.Meanwhile.{log_is_read}
 use Rattle.lsm_logged.specs.Opening.{OpensLogged, CanBeSettled, IsReopenedLog, image_read, version_of}
 use Rattle.lsm_logged.specs.Writing.{batch_of}
 use Rattle.example_log.specs.Kept.{HoldsBatch}
-use Rattle.example_log.proofs.Acknowledged.{HasOne, fresh_image, fresh_stands}
+use Rattle.example_log.specs.Written.{HasOne, fresh_image}
+use Rattle.example_log.proofs.Acknowledged.{fresh_stands}
 use Rattle.example_log.proofs.Batches.{in_order, spared_writes, replay_writes}
 
 module _ {S : Type 0} (world : S → World) (ops : List (Bytes × Op)) (c : Core) (w : World) (one : HasOne ops c w) (stored : IsStored w (versions_left c) (written_of c)) (rest : AtRest w)
@@ -126,7 +127,7 @@ module _ {S : Type 0} (world : S → World) (ops : List (Bytes × Op)) (c : Core
   abbrev image2 : LogImage
   image2 = image_read v opens.records
 
-  pub low : log.log_from ≤ v.log_from
+  low : log.log_from ≤ v.log_from
   low = let e = log_from in omega (arith, e)
 
   has : HasRecords image2 log
@@ -143,9 +144,9 @@ module _ {S : Type 0} (world : S → World) (ops : List (Bytes × Op)) (c : Core
   stands2 : LogStands image2
   stands2 = (recovers (fresh_image one.from) one.first log log (Batched b ∷ []) [] stands one.reopened acts refl order image2 is_left).stands
 
-  module _ (settle : CanBeSettled (world left) v.log_from) where
+  module _ (settles : (n : ℕ) → log.log_from ≤ n → CanBeSettled (world left) n) where
     again : IsReopenedLog image2 t (world t.store)
-    again = opens.reopens tt stands2 settle
+    again = opens.reopens tt stands2 (settles v.log_from low)
 
     shows : (k : Bytes) → get (logged image2) k ≡ get (beginning empty (map Write es)) k
     shows k =

@@ -1,9 +1,12 @@
 // Lives of a logged tree over a store in memory.
-ghost use Rattle.std.specs.Prelude.{None, IfOk, IfSome};
+ghost use Rattle.std.specs.Prelude.{List, None, IfOk, IfSome};
+ghost use Rattle.lsm_below.specs.Keys.{Bytes};
 ghost use Rattle.lsm_store.specs.Memory.{world_of};
 ghost use Rattle.lsm_store.specs.World.{Begins};
+ghost use Rattle.lsm_model.specs.declared.op.Op.{Op as OpOf};
 ghost use Rattle.lsm_logged.specs.Opening.{OpensLogged};
 ghost use Rattle.example_log.specs.Kept.{HoldsBatch};
+ghost use Rattle.example_log.specs.Written.{HasWritten, WasWritten};
 
 use lsm_below::{Error, UserKey};
 use lsm_commit::crashes_leave_versions;
@@ -30,6 +33,37 @@ fn opened(alloc: Global, store: MemStore) -> Result<Logged, Error>
     }
 }
 
+/// Writes a batch to a new logged tree, and gives back its store once the batch is acknowledged.
+fn written(alloc: Global, store: MemStore, ops: Vec<(UserKey, Op)>) -> Result<MemStore, Error>
+    requires new { Begins (λ _. None) (world_of store) }
+    ensures { IfOk result (HasWritten ops.items) }
+{
+    crashes_settle(&store);
+    logs_can_be_settled(&store);
+    tables_alone_stand();
+    let mut tree = opened(alloc, store)?;
+    tree.write(ops)?;
+    let store = tree.into_store();
+    crashes_leave_versions(&store);
+    Ok(store)
+}
+
+/// Opens a logged tree on what is left of that.
+fn reopened(alloc: Global, left: MemStore) -> Result<Logged, Error>
+    ensures { IfOk result (λ t. (ops : List (Bytes × OpOf)) → WasWritten ops left → HoldsBatch ops t.core) }
+{
+    images_have_logs(&left);
+    versions_are_told_once();
+    records_are_those_read();
+    tables_alone_stand();
+    replays_are_in_order();
+    log_stays_sound();
+    every_crash_keeps_batches();
+    whole_is_logged();
+    logged_reads_are_right();
+    opened(alloc, left)
+}
+
 /// Writes a batch to a new logged tree, crashes its store so that of these names this is left, and opens a logged tree on what
 /// is left. None where that can't be left. Faults may be planned in the store.
 ///
@@ -44,25 +78,12 @@ pub fn write_and_crash(
     requires new { Begins (λ _. None) (world_of store) }
     ensures { IfOk result (λ r. IfSome r (λ t. HoldsBatch ops.items t.core)) }
 {
-    crashes_settle(&store);
     logs_can_be_settled(&store);
-    images_have_logs(&store);
-    versions_are_told_once();
-    records_are_those_read();
-    tables_alone_stand();
-    replays_are_in_order();
-    log_stays_sound();
-    every_crash_keeps_batches();
-    whole_is_logged();
-    logged_reads_are_right();
-    let mut tree = opened(alloc, store)?;
-    tree.write(ops)?;
-    let store = tree.into_store();
-    crashes_leave_versions(&store);
+    let store = written(alloc, store, ops)?;
     let Some(left) = store.crash(picks)? else {
         return Ok(None);
     };
-    let again = opened(alloc, left)?;
+    let again = reopened(alloc, left)?;
     Ok(Some(again))
 }
 
@@ -75,21 +96,8 @@ pub fn write_and_end(
     requires new { Begins (λ _. None) (world_of store) }
     ensures { IfOk result (λ t. HoldsBatch ops.items t.core) }
 {
-    crashes_settle(&store);
     logs_can_be_settled(&store);
-    images_have_logs(&store);
-    versions_are_told_once();
-    records_are_those_read();
-    tables_alone_stand();
-    replays_are_in_order();
-    log_stays_sound();
-    every_crash_keeps_batches();
-    whole_is_logged();
-    logged_reads_are_right();
-    let mut tree = opened(alloc, store)?;
-    tree.write(ops)?;
-    let store = tree.into_store();
-    crashes_leave_versions(&store);
-    let again = opened(alloc, store)?;
+    let store = written(alloc, store, ops)?;
+    let again = reopened(alloc, store)?;
     Ok(again)
 }
