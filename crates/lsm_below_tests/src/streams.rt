@@ -90,46 +90,42 @@ fn gives<S: Source>(mut source: S, numbers: &[SeqNo]) -> bool {
     is_over(&mut source)
 }
 
-/// Whether a compaction keeps the entries of just these sequence numbers, of one key's entries.
-fn keeps(
+/// What a compaction keeps of one key's entries.
+fn kept(
     alloc: Global,
     entries: &[(SeqNo, ValueType)],
     watermark: SeqNo,
-    kept: &[SeqNo],
-) -> Result<bool, AllocError> {
-    let stream = CompactionStream::new(merged_one(alloc, entries)?, watermark);
-    Ok(gives(stream, kept))
-}
-
-/// Whether it does so where tombstones are evicted.
-fn keeps_evicting(
-    alloc: Global,
-    entries: &[(SeqNo, ValueType)],
-    watermark: SeqNo,
-    kept: &[SeqNo],
-) -> Result<bool, AllocError> {
-    let stream = CompactionStream::new(merged_one(alloc, entries)?, watermark);
-    Ok(gives(stream.evict_tombstones(true), kept))
+) -> Result<CompactionStream<Merger<ListSource>>, AllocError> {
+    Ok(CompactionStream::new(merged_one(alloc, entries)?, watermark))
 }
 
 #[test]
 fn rows_of_the_table(rt: HostRuntime) -> Result<(), Fail> {
     let alloc = rt.alloc();
-    assert!(rt; keeps(alloc, &[(5, V), (3, V)], 4, &[5])?);
-    assert!(rt; keeps(alloc, &[(5, V), (3, V)], 3, &[5, 3])?);
-    assert!(rt; keeps(alloc, &[(5, T)], 0, &[5])?);
-    assert!(rt; keeps(alloc, &[(5, T), (3, V)], 4, &[5])?);
-    assert!(rt; keeps(alloc, &[(5, W), (3, V)], 4, &[])?);
+    assert!(rt; gives(kept(alloc, &[(5, V), (3, V)], 4)?, &[5]));
+    assert!(rt; gives(kept(alloc, &[(5, V), (3, V)], 3)?, &[5, 3]));
+    assert!(rt; gives(kept(alloc, &[(5, T)], 0)?, &[5]));
+    assert!(rt; gives(kept(alloc, &[(5, T), (3, V)], 4)?, &[5]));
+    assert!(rt; gives(kept(alloc, &[(5, W), (3, V)], 4)?, &[]));
     Ok(())
+}
+
+/// The same where tombstones are evicted.
+fn kept_evicting(
+    alloc: Global,
+    entries: &[(SeqNo, ValueType)],
+    watermark: SeqNo,
+) -> Result<CompactionStream<Merger<ListSource>>, AllocError> {
+    Ok(kept(alloc, entries, watermark)?.evict_tombstones(true))
 }
 
 #[test]
 fn rows_with_eviction(rt: HostRuntime) -> Result<(), Fail> {
     let alloc = rt.alloc();
-    assert!(rt; keeps_evicting(alloc, &[(5, T)], 0, &[])?);
-    assert!(rt; keeps_evicting(alloc, &[(5, T), (3, V)], 4, &[])?);
-    assert!(rt; keeps_evicting(alloc, &[(5, W), (3, T)], 4, &[5])?);
-    assert!(rt; keeps_evicting(alloc, &[(9, V), (5, T), (3, V)], 4, &[9])?);
+    assert!(rt; gives(kept_evicting(alloc, &[(5, T)], 0)?, &[]));
+    assert!(rt; gives(kept_evicting(alloc, &[(5, T), (3, V)], 4)?, &[]));
+    assert!(rt; gives(kept_evicting(alloc, &[(5, W), (3, T)], 4)?, &[5]));
+    assert!(rt; gives(kept_evicting(alloc, &[(9, V), (5, T), (3, V)], 4)?, &[9]));
     Ok(())
 }
 

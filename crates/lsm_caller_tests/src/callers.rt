@@ -28,99 +28,85 @@ fn name_value(alloc: Global, caller: usize, turn: u8) -> Result<UserKey, AllocEr
     UserKey::copy_from_slice(alloc, name.as_bytes())
 }
 
-/// Writes a key under the next number.
-fn write(
-    rt: &impl Wait,
+/// A caller: what it takes the lock with, its own pass, and its number, which says what it does.
+#[derive(Drop)]
+struct Caller<'a, R: Wait> {
+    rt: &'a R,
     alloc: Global,
-    tree: &RecordedTree,
-    pass: &mut Pass,
-    caller: usize,
-    turn: u8,
-) -> Result<SeqNo, Error> {
-    let ops = set(
-        alloc,
-        name_key(alloc, turn)?,
-        name_value(alloc, caller, turn)?,
-    )?;
-    tree.write(rt, pass, ops)
+    tree: &'a RecordedTree,
+    pass: Pass,
+    number: usize,
 }
 
-/// Reads another key at this snapshot.
-fn read(
-    rt: &impl Wait,
-    alloc: Global,
-    tree: &RecordedTree,
-    pass: &mut Pass,
-    turn: u8,
-    snapshot: SeqNo,
-) -> Result<(), Error> {
-    let key = name_key(alloc, turn.saturating_add(1))?;
-    match tree.get(rt, pass, key.as_slice(), snapshot) {
-        Ok(_) => Ok(()),
-        Err(error) => Err(error),
+impl<R: Wait> Caller<'_, R> {
+    /// Writes a key under the next number.
+    fn write(&mut self, turn: u8) -> Result<SeqNo, Error> {
+        let key = name_key(self.alloc, turn)?;
+        let value = name_value(self.alloc, self.number, turn)?;
+        let ops = set(self.alloc, key, value)?;
+        self.tree.write(self.rt, &mut self.pass, ops)
     }
-}
 
-/// Writes a key, and reads another one after that write.
-fn write_and_read(
-    rt: &impl Wait,
-    alloc: Global,
-    tree: &RecordedTree,
-    pass: &mut Pass,
-    caller: usize,
-    turn: u8,
-) -> Result<(), Error> {
-    let number = write(rt, alloc, tree, pass, caller, turn)?;
-    read(rt, alloc, tree, pass, turn, number.saturating_add(1))
-}
-
-fn flush(rt: &impl Wait, tree: &RecordedTree, pass: &mut Pass) -> Result<(), Error> {
-    match tree.flush_active_memtable(rt, pass, 0) {
-        Ok(_) => Ok(()),
-        Err((error, _)) => Err(error),
+    /// Reads another key at this snapshot.
+    fn read(&mut self, turn: u8, snapshot: SeqNo) -> Result<(), Error> {
+        let key = name_key(self.alloc, turn.saturating_add(1))?;
+        let pass = &mut self.pass;
+        match self.tree.get(self.rt, pass, key.as_slice(), snapshot) {
+            Ok(_) => Ok(()),
+            Err(error) => Err(error),
+        }
     }
-}
 
-/// Clears at each fourth turn.
-fn clear(rt: &impl Wait, tree: &RecordedTree, pass: &mut Pass, turn: u8) -> Result<(), Error> {
-    if turn % 4 == 0 {
-        tree.clear(rt, pass)?;
+    fn flush(&mut self) -> Result<(), Error> {
+        match self.tree.flush_active_memtable(self.rt, &mut self.pass, 0) {
+            Ok(_) => Ok(()),
+            Err((error, _)) => Err(error),
+        }
     }
-    Ok(())
-}
 
-fn compact(rt: &impl Wait, tree: &RecordedTree, pass: &mut Pass) -> Result<(), Error> {
-    tree.compact_gated(rt, pass, &Major::new(u64::MAX), 0, &RunJob)?;
-    Ok(())
-}
+    fn compact(&mut self) -> Result<(), Error> {
+        let major = Major::new(u64::MAX);
+        let pass = &mut self.pass;
+        self.tree.compact_gated(self.rt, pass, &major, 0, &RunJob)?;
+        Ok(())
+    }
 
-/// What a caller does at one of its turns.
-fn take_turn(
-    rt: &impl Wait,
-    alloc: Global,
-    tree: &RecordedTree,
-    pass: &mut Pass,
-    caller: usize,
-    turn: u8,
-) -> Result<(), Error> {
-    match caller {
-        0..=7 => write_and_read(rt, alloc, tree, pass, caller, turn),
-        8 => flush(rt, tree, pass),
-        9 => clear(rt, tree, pass, turn),
-        _ => compact(rt, tree, pass),
+    /// What it does at one of its turns: it writes a key and reads another one after that, flushes, clears at each fourth
+    /// turn, or compacts.
+    fn take_turn(&mut self, turn: u8) -> Result<(), Error> {
+        match self.number {
+            0..=7 => {
+                let number = self.write(turn)?;
+                self.read(turn, number.saturating_add(1))
+            }
+            8 => self.flush(),
+            9 => {
+                if turn % 4 == 0 {
+                    self.tree.clear(self.rt, &mut self.pass)?;
+                }
+                Ok(())
+            }
+            _ => self.compact(),
+        }
     }
 }
 
 /// What a caller's calls put into the journal, and whether none of them was refused.
 type Told = (Pass, bool);
 
-fn call(rt: &impl Wait, alloc: Global, tree: &RecordedTree, caller: usize) -> Told {
-    let mut pass = Pass::new(alloc);
+fn call(rt: &impl Wait, alloc: Global, tree: &RecordedTree, number: usize) -> Told {
+    let mut caller = Caller {
+        rt,
+        alloc,
+        tree,
+        pass: Pass::new(alloc),
+        number,
+    };
     let mut is_done = true;
     for turn in 0..TURNS {
-        is_done = is_done && take_turn(rt, alloc, tree, &mut pass, caller, turn).is_ok();
+        is_done = is_done && caller.take_turn(turn).is_ok();
     }
-    (pass, is_done)
+    (caller.pass, is_done)
 }
 
 /// The passes of all callers, and whether no call was refused.
@@ -162,7 +148,7 @@ fn call_all<R: Threads + Wait + Sync>(
         rt,
         alloc,
         CALLERS,
-        &|caller| { call(rt, alloc, tree, caller) },
+        &|number| { call(rt, alloc, tree, number) },
     );
     match told {
         Ok(told) => count_told(rt, alloc, tree, told),

@@ -2,7 +2,8 @@
 use crate::samples::{set, text};
 use lsm_tree::{
     Begun, Choice, ChooseError, CompactionJob, CompactionState, CompactionStrategy, Config, Error,
-    Gate, Handle, Input, MemStore, MergedCompaction, TableId, Tree, TreeState, Version,
+    Gate, Handle, Input, MemStore, MergedCompaction, Op, TableId, Tree, TreeState, UserKey,
+    Version,
 };
 use std::alloc::{AllocError, Global};
 use std::collections::HashSet;
@@ -121,15 +122,9 @@ fn merge_both<R: Threads + Wait + Sync>(rt: &R, alloc: Global, tree: &Tree, flag
     }
 }
 
-/// Sets a key, in a table of its own.
-fn set_in_table(
-    rt: &impl Wait,
-    alloc: Global,
-    tree: &Tree,
-    key: &'static str,
-    value: &'static str,
-) -> Result<(), Error> {
-    tree.write(rt, set(alloc, text(key), text(value))?)?;
+/// Writes a batch into a table of its own.
+fn write_table(rt: &impl Wait, tree: &Tree, ops: Vec<(UserKey, Op)>) -> Result<(), Error> {
+    tree.write(rt, ops)?;
     match tree.flush_active_memtable(rt, 0) {
         Ok(_) => Ok(()),
         Err((error, _)) => Err(error),
@@ -138,8 +133,8 @@ fn set_in_table(
 
 /// Sets a = 1 (0) and b = 2 (2), which their flushes (1 and 3) put into one run.
 fn fill(rt: &impl Wait, alloc: Global, tree: &Tree) -> Result<(), Error> {
-    set_in_table(rt, alloc, tree, "a", "1")?;
-    set_in_table(rt, alloc, tree, "b", "2")
+    write_table(rt, tree, set(alloc, text("a"), text("1"))?)?;
+    write_table(rt, tree, set(alloc, text("b"), text("2"))?)
 }
 
 fn open(alloc: Global) -> Result<Tree, Error> {

@@ -57,18 +57,6 @@ fn agrees_on(alloc: Global, files: &[Held], name: &str, change: Change<'_>) -> R
     Ok(agrees(alloc, first, second)?)
 }
 
-fn agrees_with_sums(
-    alloc: Global,
-    files: &[Held],
-    is_fourth: bool,
-    name: &str,
-    bytes: &[u8],
-) -> Result<bool, Fail> {
-    let first = store_with_sums(alloc, files, is_fourth, name, bytes)?;
-    let second = store_with_sums(alloc, files, is_fourth, name, bytes)?;
-    Ok(agrees(alloc, first, second)?)
-}
-
 /// Bytes, one of which is another.
 fn changed(alloc: Global, bytes: &[u8], place: usize, mask: u8) -> Result<Vec<u8>, Fail> {
     let mut other = Vec::from_slice(alloc, bytes)?;
@@ -87,7 +75,9 @@ fn agrees_both(
     bytes: &[u8],
 ) -> Result<bool, Fail> {
     let plain = agrees_on(alloc, files, name, Change::Holds(bytes))?;
-    Ok(plain && agrees_with_sums(alloc, files, is_fourth, name, bytes)?)
+    let first = store_with_sums(alloc, files, is_fourth, name, bytes)?;
+    let second = store_with_sums(alloc, files, is_fourth, name, bytes)?;
+    Ok(plain && agrees(alloc, first, second)?)
 }
 
 /// Whether a cut of a file there, and a byte there that is changed in three ways, are told of as they are met.

@@ -40,32 +40,21 @@ fn behind(
     (taken.ended.is_ok() && taken.replies.len() == steps.len()).then_some(known)
 }
 
-/// Takes all steps in one run.
-fn take_all(
+/// Takes the steps of a script: all in one run, or one by one, up to the one in which a store call fails.
+fn take(
     alloc: Global,
     tree: &mut Logged,
     strategies: &[Box<dyn CompactionStrategy>],
-    steps: &[LogStep],
-    known: Known,
-    tally: &mut Tally,
-) -> Option<Known> {
-    let taken = run_logged(alloc, tree, strategies, steps);
-    behind(steps, &taken, known, tally)
-}
-
-/// Takes the steps one by one, up to the one in which a store call fails.
-fn take_up_to_fault(
-    alloc: Global,
-    tree: &mut Logged,
-    strategies: &[Box<dyn CompactionStrategy>],
-    steps: &[LogStep],
+    script: &Script,
     known: Known,
     tally: &mut Tally,
 ) -> Option<Known> {
     let failed = tree.store().failures();
+    let at_once = if script.goes_on { usize::MAX } else { 1 };
     let mut known = known;
-    for step in steps.chunks(1) {
-        known = take_all(alloc, tree, strategies, step, known, tally)?;
+    for steps in script.steps.chunks(at_once) {
+        let taken = run_logged(alloc, tree, strategies, steps);
+        known = behind(steps, &taken, known, tally)?;
         if tree.store().failures() > failed {
             break;
         }
@@ -85,12 +74,7 @@ fn play(
     let failed = store.failures();
     match Logged::open(alloc, Config::new(0, 0, 0), store) {
         Ok(mut tree) => {
-            let steps = script.steps.as_slice();
-            let known = if script.goes_on {
-                take_all(alloc, &mut tree, strategies, steps, known, tally)
-            } else {
-                take_up_to_fault(alloc, &mut tree, strategies, steps, known, tally)
-            };
+            let known = take(alloc, &mut tree, strategies, script, known, tally);
             (tree.into_store(), known)
         }
         Err((_, store)) => {

@@ -1,5 +1,5 @@
 // Clears of trees with a journal and of shared ones, and two callers who read back what they wrote.
-use crate::samples::{open_recorded, open_shared, record, set, share_recorded, text};
+use crate::samples::{Caller, open_recorded, open_shared, set, share_recorded, text};
 use lsm_tree::{
     Answer, Config, Error, JournalEntry, Op, Pass, Question, Recorded, RecordedTree, SeqNo,
     SharedEntry, Tree, UserValue,
@@ -63,42 +63,34 @@ fn a_clear_is_noted(rt: HostRuntime) -> Result<(), Fail> {
     Ok(())
 }
 
-/// A write, a clear behind the lock, and a write that is read.
-fn clears_shared(
-    rt: &impl Wait,
-    alloc: Global,
-    tree: &RecordedTree,
-    pass: &mut Pass,
-) -> Result<bool, Error> {
-    record(rt, alloc, tree, pass, "x")?;
+/// A write, a clear behind the lock, and a read after it.
+fn clears_shared(caller: &mut Caller<'_, impl Wait>) -> Result<bool, Error> {
+    caller.set("x")?;
+    let (rt, tree, pass) = caller.parts();
     let cleared = tree.clear(rt, pass)?;
     let found = tree.get(rt, pass, b"a", 2)?;
     Ok(cleared == 1 && found.is_none())
 }
 
-/// Whether a pass lists the journal, in which the clear is the second of three entries.
-fn closes(rt: &impl Wait, alloc: Global, tree: &RecordedTree, pass: Pass) -> bool {
-    let Ok(passes) = vec![in alloc; pass] else {
-        return false;
-    };
-    match tree.close(rt, passes) {
-        Ok(closed) => {
+/// Whether the pass lists the journal, in which the clear is the second of three entries.
+fn closes(caller: Caller<'_, impl Wait>) -> bool {
+    match caller.close() {
+        Some(closed) => {
             closed.opened.table_count() == 0
                 && closed.journal.len() == 3
                 && matches!(closed.journal[1].as_entry(), JournalEntry::Clear(1))
         }
-        Err(_) => false,
+        None => false,
     }
 }
 
 #[test]
 fn a_clear_behind_the_lock_is_noted(rt: HostRuntime) -> Result<(), Fail> {
-    let alloc = rt.alloc();
-    let tree = share_recorded(alloc)?;
-    let mut pass = Pass::new(alloc);
-    let done = clears_shared(&rt, alloc, &tree, &mut pass);
+    let tree = share_recorded(rt.alloc())?;
+    let mut caller = Caller::new(&rt, rt.alloc(), &tree);
+    let done = clears_shared(&mut caller);
     assert!(rt; matches!(done, Ok(true)));
-    assert!(rt; closes(&rt, alloc, &tree, pass));
+    assert!(rt; closes(caller));
     drop(tree);
     Ok(())
 }

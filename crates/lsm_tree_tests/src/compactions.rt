@@ -1,11 +1,11 @@
 // Compactions of shared trees, with a journal and without, and of a recorded tree with one owner.
 use crate::samples::{
-    Noted, did_nothing, is_installed, open_recorded, open_shared, record, record_in_table, set,
-    set_in_table, share_recorded, shows, tells, text,
+    Caller, Noted, did_nothing, is_installed, open_recorded, open_shared, set, set_in_table,
+    share_recorded, shows, tells, text,
 };
 use lsm_tree::{
     Begun, Choice, CompactionJob, Config, Error, Finished, Leveled, Major, Op, Options,
-    OwnedBounds, Pass, Recorded, RecordedTree, Tree, Why,
+    OwnedBounds, Pass, Recorded, Tree, Why,
 };
 use std::alloc::Global;
 use std::collections::HashSet;
@@ -128,29 +128,22 @@ fn a_shared_tree_does_a_choice(rt: HostRuntime) -> Result<(), Fail> {
 // ---- with a journal
 
 /// Two tables are merged in parts, with a write in between.
-fn record_merge(
-    rt: &impl Wait,
-    alloc: Global,
-    tree: &RecordedTree,
-    pass: &mut Pass,
-) -> Result<bool, Error> {
-    record_in_table(rt, alloc, tree, pass, "x")?;
-    record_in_table(rt, alloc, tree, pass, "y")?;
-    let begun = tree.begin_compaction(rt, pass, &Major::new(u64::MAX), at(0))?;
-    let job = job_of(begun)?;
-    record(rt, alloc, tree, pass, "z")?;
+fn record_merge(caller: &mut Caller<'_, impl Wait>) -> Result<bool, Error> {
+    caller.set_in_table("x")?;
+    caller.set_in_table("y")?;
+    let major = Major::new(u64::MAX);
+    let (rt, tree, pass) = caller.parts();
+    let job = job_of(tree.begin_compaction(rt, pass, &major, at(0))?)?;
+    caller.set("z")?;
     let merged = job.run().map_err(|refused| refused.0)?;
+    let (rt, tree, pass) = caller.parts();
     let finished = tree.finish_compaction(rt, pass, merged)?;
     Ok(finished == Finished::Installed && !tree.is_compacting(rt))
 }
 
 /// The strategy of levels finds nothing to do, and then all tables are dropped.
-fn record_drop(
-    rt: &impl Wait,
-    alloc: Global,
-    tree: &RecordedTree,
-    pass: &mut Pass,
-) -> Result<bool, Error> {
+fn record_drop(alloc: Global, caller: &mut Caller<'_, impl Wait>) -> Result<bool, Error> {
+    let (rt, tree, pass) = caller.parts();
     let leveled = Leveled::new(alloc)?;
     let waits = did_nothing(&tree.compact(rt, pass, &leveled, 0));
     let drops = is_installed(&tree.drop_range(rt, pass, everything()));
@@ -178,57 +171,51 @@ const NOTED: [Noted; 13] = [
     Noted::Install(6),
 ];
 
-/// Whether a pass lists the journal, which has so many entries.
-fn closes(rt: &impl Wait, alloc: Global, tree: &RecordedTree, pass: Pass, count: usize) -> bool {
-    let mut passes = Vec::new(alloc);
-    let _ = passes.push(pass);
-    match tree.close(rt, passes) {
-        Ok(closed) => closed.journal.len() == count,
-        Err(_) => false,
+/// Whether the pass lists the journal, which has so many entries.
+fn closes(caller: Caller<'_, impl Wait>, count: usize) -> bool {
+    match caller.close() {
+        Some(closed) => closed.journal.len() == count,
+        None => false,
     }
 }
 
 #[test]
 fn compactions_are_noted(rt: HostRuntime) -> Result<(), Fail> {
-    let alloc = rt.alloc();
-    let tree = share_recorded(alloc)?;
-    let mut pass = Pass::new(alloc);
-    let merged = record_merge(&rt, alloc, &tree, &mut pass);
+    let tree = share_recorded(rt.alloc())?;
+    let mut caller = Caller::new(&rt, rt.alloc(), &tree);
+    let merged = record_merge(&mut caller);
     assert!(rt; matches!(merged, Ok(true)));
-    let dropped = record_drop(&rt, alloc, &tree, &mut pass);
+    let dropped = record_drop(rt.alloc(), &mut caller);
     assert!(rt; matches!(dropped, Ok(true)));
-    assert!(rt; tells(&pass, &NOTED));
-    assert!(rt; closes(&rt, alloc, &tree, pass, 13));
+    assert!(rt; tells(&caller.pass, &NOTED));
+    assert!(rt; closes(caller, 13));
     drop(tree);
     Ok(())
 }
 
 /// A merge is given up, and one is done in one call with all that is left to do.
-fn record_in_one_call(
-    rt: &impl Wait,
-    alloc: Global,
-    tree: &RecordedTree,
-    pass: &mut Pass,
-) -> Result<bool, Error> {
-    record_in_table(rt, alloc, tree, pass, "x")?;
-    let begun = tree.begin_compaction(rt, pass, &Major::new(u64::MAX), at(0))?;
-    tree.abandon_compaction(rt, pass, job_of(begun)?);
+fn record_in_one_call(caller: &mut Caller<'_, impl Wait>) -> Result<bool, Error> {
+    caller.set_in_table("x")?;
+    let major = Major::new(u64::MAX);
+    let (rt, tree, pass) = caller.parts();
+    let job = job_of(tree.begin_compaction(rt, pass, &major, at(0))?)?;
+    tree.abandon_compaction(rt, pass, job);
     let is_free = !tree.is_compacting(rt);
-    let merges = is_installed(&tree.do_compaction(rt, pass, &Major::new(u64::MAX), at(0)));
-    record_in_table(rt, alloc, tree, pass, "y")?;
+    let merges = is_installed(&tree.do_compaction(rt, pass, &major, at(0)));
+    caller.set_in_table("y")?;
+    let (rt, tree, pass) = caller.parts();
     let merges_all = is_installed(&tree.major_compact(rt, pass, u64::MAX, 0));
     Ok(is_free && merges && merges_all)
 }
 
 #[test]
 fn a_recorded_tree_compacts_in_one_call(rt: HostRuntime) -> Result<(), Fail> {
-    let alloc = rt.alloc();
-    let tree = share_recorded(alloc)?;
-    let mut pass = Pass::new(alloc);
-    let done = record_in_one_call(&rt, alloc, &tree, &mut pass);
+    let tree = share_recorded(rt.alloc())?;
+    let mut caller = Caller::new(&rt, rt.alloc(), &tree);
+    let done = record_in_one_call(&mut caller);
     assert!(rt; matches!(done, Ok(true)));
     // Two writes and two flushes, the mark of what was given up, and two marks with their installs.
-    assert!(rt; closes(&rt, alloc, &tree, pass, 11));
+    assert!(rt; closes(caller, 11));
     drop(tree);
     Ok(())
 }

@@ -1,8 +1,7 @@
 // Flushes of shared trees over a store of which a call fails.
-use crate::samples::{record, set, text};
+use crate::samples::{Caller, set, text};
 use lsm_tree::{
-    Config, Error, Fault, Handle, MemStore, Pass, Recorded, RecordedTree, Registered, Tree,
-    TreeState,
+    Config, Error, Fault, Handle, MemStore, Recorded, RecordedTree, Registered, Tree, TreeState,
 };
 use std::alloc::Global;
 use std::sync::Wait;
@@ -41,7 +40,7 @@ fn goes_on(rt: &impl Wait, alloc: Global, tree: &Tree) -> Result<bool, Error> {
     Ok(is_blamed && is_flushed(&next) && found == Some(text("x")))
 }
 
-fn goes_on_behind(rt: &impl Wait, alloc: Global, call: u64) -> bool {
+fn goes_on_after(rt: &impl Wait, alloc: Global, call: u64) -> bool {
     let Ok(tree) = open(alloc, call) else {
         return false;
     };
@@ -52,10 +51,10 @@ fn goes_on_behind(rt: &impl Wait, alloc: Global, call: u64) -> bool {
 
 /// Each of its five calls: the table and `v1` are written and synced, and `current` replaced.
 #[test]
-fn a_shared_tree_goes_on_behind_a_failed_flush(rt: HostRuntime) {
+fn a_shared_tree_goes_on_after_a_failed_flush(rt: HostRuntime) {
     let mut count = 0u64;
     for call in 1..CALLS {
-        if goes_on_behind(&rt, rt.alloc(), call) {
+        if goes_on_after(&rt, rt.alloc(), call) {
             count = count.saturating_add(1);
         }
     }
@@ -72,13 +71,9 @@ fn open_recorded(alloc: Global, call: u64) -> Result<RecordedTree, Error> {
 }
 
 /// The same of a tree with its journal.
-fn records_on(
-    rt: &impl Wait,
-    alloc: Global,
-    tree: &RecordedTree,
-    pass: &mut Pass,
-) -> Result<bool, Error> {
-    record(rt, alloc, tree, pass, "x")?;
+fn records_on(caller: &mut Caller<'_, impl Wait>) -> Result<bool, Error> {
+    caller.set("x")?;
+    let (rt, tree, pass) = caller.parts();
     let told = tree.flush_active_memtable(rt, pass, 0);
     let is_blamed = matches!(told, Err((Error::Store, Some(0))));
     let next = tree.flush(rt, pass, 0)?;
@@ -86,22 +81,22 @@ fn records_on(
     Ok(is_blamed && is_flushed(&next) && found == Some(text("x")))
 }
 
-fn records_on_behind(rt: &impl Wait, alloc: Global, call: u64) -> bool {
+fn records_on_after(rt: &impl Wait, alloc: Global, call: u64) -> bool {
     let Ok(tree) = open_recorded(alloc, call) else {
         return false;
     };
-    let mut pass = Pass::new(alloc);
-    let done = records_on(rt, alloc, &tree, &mut pass);
-    drop(pass);
+    let mut caller = Caller::new(rt, alloc, &tree);
+    let done = records_on(&mut caller);
+    drop(caller);
     drop(tree);
     matches!(done, Ok(true))
 }
 
 #[test]
-fn a_recorded_tree_goes_on_behind_a_failed_flush(rt: HostRuntime) {
+fn a_recorded_tree_goes_on_after_a_failed_flush(rt: HostRuntime) {
     let mut count = 0u64;
     for call in 1..CALLS {
-        if records_on_behind(&rt, rt.alloc(), call) {
+        if records_on_after(&rt, rt.alloc(), call) {
             count = count.saturating_add(1);
         }
     }

@@ -1,10 +1,10 @@
 // Flushes of shared trees, with a journal and without, and of a tree under a list of calls.
 use crate::samples::{
-    Noted, open_shared, open_state, record, set, share_recorded, shows, tells, text,
+    Caller, Noted, open_shared, open_state, set, share_recorded, shows, tells, text,
 };
 use lsm_tree::{
-    Count, Error, FlushJob, JobStep, JournalEntry, Op, Ops, Outcome, Pass, RecordedTree,
-    Registered, Reply, Step, Tree, TreeType, WrittenFlush, run,
+    Count, Error, FlushJob, JobStep, JournalEntry, Op, Ops, Outcome, Registered, Reply, Step, Tree,
+    TreeType, WrittenFlush, run,
 };
 use std::alloc::{AllocError, Global};
 use std::sync::Wait;
@@ -129,13 +129,9 @@ fn a_shared_tree_tells_what_it_counts(rt: HostRuntime) -> Result<(), Fail> {
 // ---- with a journal
 
 /// a = x is flushed at watermark 0 in parts, a = y in one call at watermark 2.
-fn record_flushes(
-    rt: &impl Wait,
-    alloc: Global,
-    tree: &RecordedTree,
-    pass: &mut Pass,
-) -> Result<bool, Error> {
-    record(rt, alloc, tree, pass, "x")?;
+fn record_flushes(caller: &mut Caller<'_, impl Wait>) -> Result<bool, Error> {
+    caller.set("x")?;
+    let (rt, tree, pass) = caller.parts();
     tree.rotate_memtable(rt, pass)?;
     let Some(job) = tree.begin_flush(rt, pass)? else {
         return Ok(false);
@@ -145,7 +141,8 @@ fn record_flushes(
         .flush_to_tables(rt, pass, merged)
         .map_err(|refused| refused.0)?;
     let first = tree.register_tables(rt, pass, written)?;
-    record(rt, alloc, tree, pass, "y")?;
+    caller.set("y")?;
+    let (rt, tree, pass) = caller.parts();
     match tree.flush_active_memtable(rt, pass, 2) {
         Ok((Some(1), Some((50, second)))) => Ok(is_installed(&first) && is_installed(&second)),
         _ => Ok(false),
@@ -164,21 +161,21 @@ const NOTED: [Noted; 6] = [
 
 #[test]
 fn flushes_are_noted(rt: HostRuntime) -> Result<(), Fail> {
-    let alloc = rt.alloc();
-    let tree = share_recorded(alloc)?;
-    let mut pass = Pass::new(alloc);
-    let flushed = record_flushes(&rt, alloc, &tree, &mut pass);
+    let tree = share_recorded(rt.alloc())?;
+    let mut caller = Caller::new(&rt, rt.alloc(), &tree);
+    let flushed = record_flushes(&mut caller);
     assert!(rt; matches!(flushed, Ok(true)));
-    assert!(rt; tells(&pass, &NOTED));
-    assert!(rt; gives_up(&rt, alloc, &tree, &mut pass));
-    drop(pass);
+    assert!(rt; tells(&caller.pass, &NOTED));
+    assert!(rt; gives_up(&mut caller));
+    drop(caller);
     drop(tree);
     Ok(())
 }
 
 /// Whether a job that is begun is given up, and a flush in one call takes its memtable along.
-fn gives_up(rt: &impl Wait, alloc: Global, tree: &RecordedTree, pass: &mut Pass) -> bool {
-    let is_set = matches!(record(rt, alloc, tree, pass, "z"), Ok(4));
+fn gives_up(caller: &mut Caller<'_, impl Wait>) -> bool {
+    let is_set = matches!(caller.set("z"), Ok(4));
+    let (rt, tree, pass) = caller.parts();
     let is_sealed = matches!(tree.rotate_memtable(rt, pass), Ok(Some(2)));
     let Ok(Some(job)) = tree.begin_flush(rt, pass) else {
         return false;

@@ -1,12 +1,9 @@
 // Compactions whose merge a gate does: no lock is held meanwhile, and a job that comes back is given up.
 use crate::samples::{
-    Noted, did_nothing, is_installed, open_shared, record_in_table, set_in_table, share_recorded,
-    shows, tells,
+    Caller, Noted, did_nothing, is_installed, open_shared, set_in_table, share_recorded, shows,
+    tells,
 };
-use lsm_tree::{
-    Begun, CompactionJob, Error, Gate, Leveled, Major, MergedCompaction, Pass, RecordedTree,
-    RunJob, Tree,
-};
+use lsm_tree::{Begun, CompactionJob, Error, Gate, Leveled, Major, MergedCompaction, RunJob, Tree};
 use std::alloc::{AllocError, Global};
 use std::sync::{Arc, Mutex, Wait};
 use std::test::Fail;
@@ -54,14 +51,10 @@ fn a_gate_does_the_merge(rt: HostRuntime) -> Result<(), Fail> {
 // ---- with a journal
 
 /// A table is merged, by the second gate.
-fn record_merge(
-    rt: &impl Wait,
-    alloc: Global,
-    tree: &RecordedTree,
-    pass: &mut Pass,
-) -> Result<bool, Error> {
+fn record_merge(caller: &mut Caller<'_, impl Wait>) -> Result<bool, Error> {
+    caller.set_in_table("x")?;
     let major = Major::new(u64::MAX);
-    record_in_table(rt, alloc, tree, pass, "x")?;
+    let (rt, tree, pass) = caller.parts();
     let is_refused = is_given_back(&tree.compact_gated(rt, pass, &major, 0, &Closed));
     let is_free = !tree.is_compacting(rt) && tree.level_table_count(rt, 0) == Some(1);
     let merges = is_installed(&tree.compact_gated(rt, pass, &major, 2, &RunJob));
@@ -80,13 +73,12 @@ const NOTED: [Noted; 6] = [
 
 #[test]
 fn what_goes_through_a_gate_is_noted(rt: HostRuntime) -> Result<(), Fail> {
-    let alloc = rt.alloc();
-    let tree = share_recorded(alloc)?;
-    let mut pass = Pass::new(alloc);
-    let done = record_merge(&rt, alloc, &tree, &mut pass);
+    let tree = share_recorded(rt.alloc())?;
+    let mut caller = Caller::new(&rt, rt.alloc(), &tree);
+    let done = record_merge(&mut caller);
     assert!(rt; matches!(done, Ok(true)));
-    assert!(rt; tells(&pass, &NOTED));
-    drop(pass);
+    assert!(rt; tells(&caller.pass, &NOTED));
+    drop(caller);
     drop(tree);
     Ok(())
 }

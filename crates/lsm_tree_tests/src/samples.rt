@@ -1,7 +1,7 @@
 // What several tests write, and the trees that they begin with.
 use lsm_tree::{
-    Begun, Config, Error, Handle, JournalEntry, MemStore, Op, Pass, Recorded, RecordedTree, Tree,
-    TreeState, UserKey,
+    Begun, Closed, Config, Error, Handle, JournalEntry, MemStore, Op, Pass, Recorded, RecordedTree,
+    Tree, TreeState, UserKey,
 };
 use std::alloc::Global;
 use std::sync::Wait;
@@ -83,29 +83,50 @@ pub(crate) fn did_nothing(begun: &Result<Begun, Error>) -> bool {
 
 // ---- and to one with its journal
 
-/// Sets the key a.
-pub(crate) fn record(
-    rt: &impl Wait,
+/// A caller of a shared tree with its journal: what it takes the lock with, and its own pass.
+#[derive(Drop)]
+pub(crate) struct Caller<'a, R: Wait> {
+    rt: &'a R,
     alloc: Global,
-    tree: &RecordedTree,
-    pass: &mut Pass,
-    value: &'static str,
-) -> Result<u64, Error> {
-    tree.write(rt, pass, vec![in alloc; (text("a"), Op::Set(text(value)))]?)
+    tree: &'a RecordedTree,
+    pub(crate) pass: Pass,
 }
 
-/// Sets the key a, and flushes it into a table.
-pub(crate) fn record_in_table(
-    rt: &impl Wait,
-    alloc: Global,
-    tree: &RecordedTree,
-    pass: &mut Pass,
-    value: &'static str,
-) -> Result<(), Error> {
-    record(rt, alloc, tree, pass, value)?;
-    match tree.flush_active_memtable(rt, pass, 0) {
-        Ok(_) => Ok(()),
-        Err((error, _)) => Err(error),
+impl<'a, R: Wait> Caller<'a, R> {
+    pub(crate) fn new(rt: &'a R, alloc: Global, tree: &'a RecordedTree) -> Caller<'a, R> {
+        let pass = Pass::new(alloc);
+        Caller {
+            rt,
+            alloc,
+            tree,
+            pass,
+        }
+    }
+
+    /// What each call of the tree is given.
+    pub(crate) fn parts(&mut self) -> (&R, &RecordedTree, &mut Pass) {
+        (self.rt, self.tree, &mut self.pass)
+    }
+
+    /// Sets the key a.
+    pub(crate) fn set(&mut self, value: &'static str) -> Result<u64, Error> {
+        let ops = vec![in self.alloc; (text("a"), Op::Set(text(value)))]?;
+        self.tree.write(self.rt, &mut self.pass, ops)
+    }
+
+    /// Sets the key a, and flushes it into a table.
+    pub(crate) fn set_in_table(&mut self, value: &'static str) -> Result<(), Error> {
+        self.set(value)?;
+        match self.tree.flush_active_memtable(self.rt, &mut self.pass, 0) {
+            Ok(_) => Ok(()),
+            Err((error, _)) => Err(error),
+        }
+    }
+
+    /// The journal that is given out for the pass, if it is.
+    pub(crate) fn close(self) -> Option<Closed> {
+        let passes = vec![in self.alloc; self.pass].ok()?;
+        self.tree.close(self.rt, passes).ok()
     }
 }
 
