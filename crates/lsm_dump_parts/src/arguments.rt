@@ -1,6 +1,22 @@
-// What the program's arguments ask.
+// A program's arguments, and what those of this one ask.
 use lsm_below::{SeqNo, TableId, parse_number};
 use std::alloc::AllocError;
+use std::rt::Env;
+use std::{env, io};
+
+/// The program's arguments, without its name; None where one of them is no text.
+pub fn list_arguments<R: Env + AllocGlobal>(rt: &R) -> io::Result<Option<Vec<String>>> {
+    match read_arguments(rt) {
+        Ok(words) => Ok(Some(words)),
+        Err(error) if error.kind() == io::ErrorKind::InvalidData => Ok(None),
+        Err(error) => Err(error),
+    }
+}
+
+fn read_arguments<R: Env + AllocGlobal>(rt: &R) -> io::Result<Vec<String>> {
+    let words = env::args(rt)?.skip(1).collect(rt.alloc())?;
+    Ok(words)
+}
 
 /// Which entries of a table are listed.
 #[derive(Clone, Copy, Debug, PartialEq, Eq)]

@@ -2,7 +2,7 @@
 //!
 //! | Module | Holds |
 //! |-|-|
-//! | `arguments` | what the program's arguments ask |
+//! | `arguments` | a program's arguments, and what those of this one ask |
 //! | `folder` | a folder as a store that is only read |
 //! | `look` | what a store holds, each file looked at once, also after the first one that is damaged |
 //! | `flaws` | what is wrong with a file, and where |
@@ -33,7 +33,7 @@ mod text;
 mod totals;
 mod verdict;
 
-pub use arguments::{Asked, BadArguments, Plan, Slice, View, parse_arguments};
+pub use arguments::{Asked, BadArguments, Plan, Slice, View, list_arguments, parse_arguments};
 pub use entries::{Bounds, bounds_of};
 pub use flaws::{Flaw, Part, Place, RunPlace, flaw_words};
 pub use folder::FolderView;

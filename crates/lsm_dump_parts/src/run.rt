@@ -116,10 +116,10 @@ fn check<S: Store>(alloc: Global, store: &mut S, is_json: bool) -> Result<Shown,
 }
 
 /// The text of what is wrong with a file that was asked for.
-fn bad_text(alloc: Global, name: &str, flaw: Flaw) -> Result<Shown, AllocError> {
+fn bad_text(alloc: Global, folder: &str, number: u64, flaw: Flaw) -> Result<Shown, Error> {
     let words = flaw_words(alloc, flaw)?;
     Ok(Shown {
-        text: format!(in alloc; "{name}: {words}\n")?,
+        text: format!(in alloc; "{folder}/{number}: {words}\n")?,
         is_good: false,
     })
 }
@@ -133,10 +133,7 @@ fn show_table<S: Store>(
 ) -> Result<Shown, Error> {
     let table = match find_table(alloc, store, id)? {
         Ok(table) => table,
-        Err(flaw) => {
-            let name = format!(in alloc; "tables/{id}")?;
-            return Ok(bad_text(alloc, name.as_str(), flaw)?);
-        }
+        Err(flaw) => return bad_text(alloc, "tables", id, flaw),
     };
     if is_json {
         return Ok(good(object_text(alloc, &table_value(alloc, &table, bounds)?)?));
@@ -154,10 +151,7 @@ fn show_record<S: Store>(
 ) -> Result<Shown, Error> {
     let record = match find_record(alloc, store, number)? {
         Ok(record) => record,
-        Err(flaw) => {
-            let name = format!(in alloc; "log/{number}")?;
-            return Ok(bad_text(alloc, name.as_str(), flaw)?);
-        }
+        Err(flaw) => return bad_text(alloc, "log", number, flaw),
     };
     if is_json {
         return Ok(good(object_text(alloc, &record_value(alloc, &record)?)?));

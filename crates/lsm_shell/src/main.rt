@@ -1,18 +1,14 @@
 //! A shell over a versioned tree: it reads lines, asks the tree, and prints the answers (`lsm_shell_parts`).
 #![tactic(auto)]
 
-use lsm_shell_parts::{Console, Watch, run_shell};
+use lsm_shell_parts::{Console, Watch, list_arguments, run_shell};
 use std::io::{IsTerminal, Stderr};
 use std::process::ExitCode;
-use std::rt::Env;
 use std::time::Duration;
-use std::{env, io};
 
 fn main(rt: HostRuntime) -> ExitCode {
-    let arguments = match list_arguments(&rt) {
-        Ok(words) => Some(words),
-        Err(error) if error.kind() == io::ErrorKind::InvalidData => None,
-        Err(_) => return ExitCode::FAILURE,
+    let Ok(arguments) = list_arguments(&rt) else {
+        return ExitCode::FAILURE;
     };
     let words = arguments.as_ref().map(|words| words.as_slice());
     let console = Console {
@@ -44,10 +40,4 @@ fn watch(rt: &HostRuntime) -> Option<Watch<Stderr>> {
     } else {
         None
     }
-}
-
-// The program's arguments, without its name. One that is no text is an error of the kind InvalidData.
-fn list_arguments<R: Env + AllocGlobal>(rt: &R) -> io::Result<Vec<String>> {
-    let words = env::args(rt)?.skip(1).collect(rt.alloc())?;
-    Ok(words)
 }

@@ -38,5 +38,6 @@ mod watched;
 mod word;
 
 pub use console::Console;
+pub use lsm_dump_parts::list_arguments;
 pub use progress::Watch;
 pub use shell::run_shell;
