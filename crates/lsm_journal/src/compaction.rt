@@ -3,7 +3,6 @@ ghost use Rattle.std.specs.Prelude.{◌≡◌, ◌⊎◌, ◌∷◌, [], true, f
 ghost use Rattle.lsm_pick.specs.Simple.{are_reversed};
 ghost use Rattle.lsm_commit.specs.Causes.{Blames};
 ghost use Rattle.lsm_state.specs.CompactionDeeds.{dropped_by};
-ghost use Rattle.lsm_state.specs.WholeCompactions.{options_at};
 ghost use Rattle.lsm_journal.specs.Noted.{IsAnswerOf, noted_of};
 
 use crate::lists::one_entry;
@@ -13,7 +12,7 @@ use lsm_below::{SeqNo, TableId};
 use lsm_model::{JournalEntry, KeyRanges};
 use lsm_parts::Error;
 use lsm_pick::{Choice, CompactionStrategy, OwnedBounds};
-use lsm_state::{Options, TreeState, told_as};
+use lsm_state::{TreeState, told_as};
 use lsm_store::Store;
 use ranges::ranges_of;
 use std::alloc::{AllocError, Global};
@@ -32,16 +31,6 @@ pub struct Chosen {
     pub answer: Result<Choice, Error>,
     /// What is noted if it is done: the mark, of a drop the ranges of its tables, and the install.
     pub entries: Vec<JournalEntry>,
-}
-
-/// A watermark, and the tree's moment.
-pub fn options_at<S: Store>(tree: &TreeState<S>, watermark: SeqNo) -> Options
-    ensures { result ≡ options_at watermark tree.now.core }
-{
-    Options {
-        mvcc_gc_watermark: watermark,
-        moment: tree.moment(),
-    }
 }
 
 /// Whether a drop of a range has nothing to do: where its bounds are reversed, unless a commit of unknown outcome came before.

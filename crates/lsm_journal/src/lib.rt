@@ -32,7 +32,7 @@ mod writes;
 pub use clear::{clear_entries, clear_noting};
 pub use compaction::{
     Chosen, ask, ask_with, begin_chosen, compact_chosen, drops_nothing, finish_entries,
-    finish_noting, options_at,
+    finish_noting,
 };
 pub use copies::{copy_bound, copy_entry, question_between, share_ops};
 pub use flush::{flush_active_noting, flush_entries, flush_noting, register_noting};

@@ -12,7 +12,7 @@ pub use whole::do_compaction;
 /// How a compaction is done.
 ///
 /// ```text
-/// let options = Options { mvcc_gc_watermark: oldest_snapshot, ..Options::from_tree(&tree) };
+/// let options = tree.options_at(oldest_snapshot);
 /// ```
 #[derive(Clone, Copy, Debug, PartialEq, Eq)]
 pub struct Options {

@@ -16,7 +16,7 @@ use lsm_below::SeqNo;
 use lsm_compaction::{CompactionJob, MergedCompaction};
 use lsm_journal::{
     Chosen, ask, ask_with, begin_chosen, compact_chosen, drops_nothing, finish_entries,
-    finish_noting, noted_compactions_keep_reads, options_at,
+    finish_noting, noted_compactions_keep_reads,
 };
 use lsm_model::reads_are_sound;
 use lsm_parts::Error;
@@ -232,7 +232,7 @@ impl<S: Store> Recorded<S> {
         ensures views { StaysBehind self.old.journal self.new.journal self.old.tree.core self.new.tree.core }
         ensures opened { self.new.opened ≡ self.old.opened }
     {
-        let options = options_at(&self.core, watermark);
+        let options = self.core.options_at(watermark);
         self.do_compaction(pass, strategy, options)
     }
 
@@ -254,7 +254,7 @@ impl<S: Store> Recorded<S> {
         ensures views { StaysBehind self.old.journal self.new.journal self.old.tree.core self.new.tree.core }
         ensures opened { self.new.opened ≡ self.old.opened }
     {
-        let options = options_at(&self.core, watermark);
+        let options = self.core.options_at(watermark);
         self.compact_with(pass, &Major::new(target), options)
     }
 
@@ -277,7 +277,7 @@ impl<S: Store> Recorded<S> {
         if drops_nothing(&self.core, &bounds) {
             return Ok(Begun::DidNothing);
         }
-        let options = options_at(&self.core, 0);
+        let options = self.core.options_at(0);
         self.compact_with(pass, &DropRange::new(bounds), options)
     }
 }

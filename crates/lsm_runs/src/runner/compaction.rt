@@ -18,7 +18,7 @@ use crate::{Compacted, Outcome, Reply};
 use lsm_below::{SeqNo, UserKey};
 use lsm_journal::{
     Chosen, ask, ask_with, begin_chosen, compact_chosen, copy_bound, drops_nothing, finish_entries,
-    finish_noting, options_at,
+    finish_noting,
 };
 use lsm_pick::{CompactionStrategy, DropRange, Major, OwnedBounds};
 use lsm_state::{Options, TreeState};
@@ -184,7 +184,7 @@ pub(super) fn compact<S: Store>(
     ensures err { OnErr result (state.new ≡ state.old) }
     ensures files { TouchesFiles result S.tells S.world state.old state.new }
 {
-    let options = options_at(state, watermark);
+    let options = state.options_at(watermark);
     do_compaction(alloc, state, strategies, at, options)
 }
 
@@ -200,7 +200,7 @@ fn compact_with<S: Store, C: CompactionStrategy>(
     ensures files { TouchesFiles result S.tells S.world state.old state.new }
 {
     state.is_upheld();
-    let options = options_at(state, watermark);
+    let options = state.options_at(watermark);
     let chosen = ask_with(alloc, state, strategy, watermark)?;
     Ok(compact_noting(state, chosen, options))
 }

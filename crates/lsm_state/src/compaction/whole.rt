@@ -86,8 +86,8 @@ impl<S: Store> TreeState<S> {
         self.follow(begun)
     }
 
-    /// A watermark, and the tree's moment.
-    fn options_at(&self, watermark: SeqNo) -> Options
+    /// The options of a compaction at a watermark, whose tables are made at the tree's moment.
+    pub fn options_at(&self, watermark: SeqNo) -> Options
         ensures { result ≡ options_at watermark self.now.core }
     {
         Options {

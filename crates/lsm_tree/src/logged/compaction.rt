@@ -123,10 +123,7 @@ impl<S: Store> Handle<Logged<S>> {
         ensures { OnSomeLoggedFiles S.tells S.world (BeginsFiles result) (λ old new. Asks result old new (BeginsCompaction (may_choose strategy.now) (may_refuse strategy.now) (options_at watermark old.core) result old.core new.core)) }
     {
         act!(self, rt, |tree| {
-            let options = Options {
-                mvcc_gc_watermark: watermark,
-                moment: tree.tree().moment(),
-            };
+            let options = tree.tree().options_at(watermark);
             tree.begin_compaction(strategy, options)
         })
     }

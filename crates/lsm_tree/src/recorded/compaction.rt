@@ -97,10 +97,7 @@ impl<S: Store> Handle<Recorded<S>> {
         ensures { OnSomeRecordedFiles S.tells S.world (BeginsFiles result) (λ old new. BeginsRecorded (may_choose strategy.now) (may_refuse strategy.now) (options_at watermark old.tree.core) result old new pass.old pass.new) }
     {
         act!(self, rt, |tree| {
-            let options = Options {
-                mvcc_gc_watermark: watermark,
-                moment: tree.moment(),
-            };
+            let options = tree.tree().options_at(watermark);
             tree.begin_compaction(pass, strategy, options)
         })
     }

@@ -107,10 +107,7 @@ impl<S: Store> Handle<TreeState<S>> {
         ensures { OnSomeTreeFiles S.tells S.world (BeginsFiles result) (λ old new. BeginsCompaction (may_choose strategy.now) (may_refuse strategy.now) (options_at watermark old) result old new) }
     {
         act!(self, rt, |tree| {
-            let options = Options {
-                mvcc_gc_watermark: watermark,
-                moment: tree.moment(),
-            };
+            let options = tree.options_at(watermark);
             tree.begin_compaction(strategy, options)
         })
     }
