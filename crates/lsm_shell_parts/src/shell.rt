@@ -69,18 +69,12 @@ where
     let watch = console.watch.take();
     let long = watch.as_ref().map(|watch| watch.entries);
     let told = match mode {
-        Mode::Memory => {
-            let opened = Session::<MemStore, Recorded>::open(alloc, MemStore::new(alloc));
-            answer_lines(alloc, opened, console, long)
-        }
+        Mode::Memory => answer_lines(alloc, open_memory::<Recorded>(alloc), console, long),
         Mode::Folder(folder) => {
             let opened = open_folder::<P, E, Recorded<Watched<P, E>>>(rt, alloc, folder, watch);
             answer_lines(alloc, opened, console, long)
         }
-        Mode::LoggedMemory => {
-            let opened = Session::<MemStore, Logged>::open(alloc, MemStore::new(alloc));
-            answer_lines(alloc, opened, console, long)
-        }
+        Mode::LoggedMemory => answer_lines(alloc, open_memory::<Logged>(alloc), console, long),
         Mode::LoggedFolder(folder) => {
             let opened = open_folder::<P, E, Logged<Watched<P, E>>>(rt, alloc, folder, watch);
             answer_lines(alloc, opened, console, long)
@@ -96,6 +90,11 @@ fn split_quiet(arguments: Option<&[String]>) -> (bool, Option<&[String]>) {
         Some([first, rest @ ..]) if first.as_str() == QUIET => (true, Some(rest)),
         _ => (false, arguments),
     }
+}
+
+/// A session over a new tree in memory.
+fn open_memory<T: SessionTree<MemStore>>(alloc: Global) -> Result<Session<MemStore, T>, Refusal> {
+    Session::open(alloc, MemStore::new(alloc))
 }
 
 /// A session over the tree of a folder, which is made where it is absent.

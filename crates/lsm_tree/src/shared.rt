@@ -1,5 +1,5 @@
 // The calls of a tree behind the lock.
-ghost use Rattle.std.specs.Prelude.{◌≡◌, ◌<◌, ◌+◌, max, Option, IfOk};
+ghost use Rattle.std.specs.Prelude.{◌≡◌, ◌<◌, ◌+◌, max, is_some, Option, IfOk};
 ghost use Rattle.lsm_below.specs.Entries.{plain};
 ghost use Rattle.lsm_model.specs.Ops.{op_entry};
 ghost use Rattle.lsm_model.specs.declared.op.Op.TheVariants.{Set, Del, Weak};
@@ -7,10 +7,10 @@ ghost use Rattle.lsm_state.specs.Flushes.{with_next_table};
 ghost use Rattle.lsm_state.specs.Calls.{Appends, WritesBatch, SealsActive, Draws};
 ghost use Rattle.lsm_state.specs.Clearing.{Clears, ForgetsUnflushed};
 ghost use Rattle.lsm_state.specs.Files.{ClearsFiles};
-ghost use Rattle.lsm_tree.specs.Shared.{OnSomeTreeAlone, OnSomeTreeFiles};
+ghost use Rattle.lsm_tree.specs.Shared.{OnSomeTreeAlone, AtSomeTree, OnSomeTreeFiles};
 
 use crate::handle::Handle;
-use crate::lock::act;
+use crate::lock::{act, read};
 use lsm_below::{InternalValue, MemtableId, SeqNo, TableId, UserKey, UserValue};
 use lsm_model::Op;
 use lsm_parts::{Error, LIMIT};
@@ -21,6 +21,13 @@ use std::sync::Wait;
 /// Each call does, refuses and costs what the one of the same name of `TreeState` does, on the tree as the
 /// lock finds it. It holds the lock until it returns.
 impl<S: Store> Handle<TreeState<S>> {
+    /// Whether a commit of unknown outcome came before, as `TreeState::is_uncertain`.
+    pub fn is_uncertain(&self, rt: &impl Wait) -> bool
+        ensures { AtSomeTree (λ c. result ≡ is_some c.lost) }
+    {
+        read!(self, rt, |tree| tree.is_uncertain())
+    }
+
     /// Seals the active memtable, as `TreeState::rotate_memtable`.
     pub fn rotate_memtable(&self, rt: &impl Wait) -> Result<Option<MemtableId>, Error>
         ensures { OnSomeTreeAlone S (SealsActive result) }
@@ -109,6 +116,13 @@ impl<S: Store> Handle<TreeState<S>> {
         ensures { OnSomeTreeAlone S (Draws (λ c. c.next_table) (λ c. with_next_table (c.next_table + 1) c) result) }
     {
         act!(self, rt, |tree| tree.get_next_table_id())
+    }
+
+    /// Sets the moment, in nanoseconds, at which tables are made from now on, as `TreeState::set_moment`.
+    pub fn set_moment(&self, rt: &impl Wait, moment: u64)
+        ensures { OnSomeTreeAlone S (λ old new. new ≡ record old { moment = moment }) }
+    {
+        act!(self, rt, |tree| tree.set_moment(moment))
     }
 
     /// Raises the visible counter to a number, unless it stands at a greater one: snapshots at it see what is numbered below it, so

@@ -1,12 +1,12 @@
 // The calls of a flush, of a tree behind the lock.
-ghost use Rattle.std.specs.Prelude.{◌≡◌, is_some};
+ghost use Rattle.std.specs.Prelude.{◌≡◌};
 ghost use Rattle.lsm_state.specs.Flushes.{Begins, WritesTables, Registers, spent};
 ghost use Rattle.lsm_state.specs.WholeFlushes.{Flushes, FlushesActive};
 ghost use Rattle.lsm_state.specs.Files.{FlushesActiveFiles, FlushesFiles, RegistersFiles, WritesFiles};
-ghost use Rattle.lsm_tree.specs.Shared.{OnSomeTreeAlone, AtSomeTree, OnSomeTreeFiles};
+ghost use Rattle.lsm_tree.specs.Shared.{OnSomeTreeAlone, OnSomeTreeFiles};
 
 use crate::handle::Handle;
-use crate::lock::{act, read};
+use crate::lock::act;
 use lsm_below::{MemtableId, SeqNo};
 use lsm_flush::{FlushJob, MergedFlush, Registered, WrittenFlush};
 use lsm_parts::Error;
@@ -70,19 +70,5 @@ impl<S: Store> Handle<TreeState<S>> {
         ensures { OnSomeTreeFiles S.tells S.world (FlushesActiveFiles result) (λ old new. FlushesActive watermark result old new) }
     {
         act!(self, rt, |tree| tree.flush_active_memtable(watermark))
-    }
-
-    /// Sets the moment, in nanoseconds, at which tables are made from now on, as `TreeState::set_moment`.
-    pub fn set_moment(&self, rt: &impl Wait, moment: u64)
-        ensures { OnSomeTreeAlone S (λ old new. new ≡ record old { moment = moment }) }
-    {
-        act!(self, rt, |tree| tree.set_moment(moment))
-    }
-
-    /// Whether a commit of unknown outcome came before, as `TreeState::is_uncertain`.
-    pub fn is_uncertain(&self, rt: &impl Wait) -> bool
-        ensures { AtSomeTree (λ c. result ≡ is_some c.lost) }
-    {
-        read!(self, rt, |tree| tree.is_uncertain())
     }
 }
