@@ -95,7 +95,10 @@ fn kept(
     alloc: Global,
     entries: &[(SeqNo, ValueType)],
     watermark: SeqNo,
-) -> Result<CompactionStream<Merger<ListSource>>, AllocError> {
+) -> Result<CompactionStream<Merger<ListSource>>, AllocError>
+    ensures in_order { IfOk result (λ s. IsInOrder s.input) }
+    ensures open { IfOk result (λ s. s.over ≡ false) }
+{
     Ok(CompactionStream::new(merged_one(alloc, entries)?, watermark))
 }
 
