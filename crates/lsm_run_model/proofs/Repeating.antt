@@ -2,7 +2,7 @@
 use Rattle.std.proofs.Common.{◌≡◌, ◌⊎◌, ⊎_elim, inl, inr, ℕ, ◌≤◌, Bool, true, false, cond, List, [], ◌∷◌, ◌++◌, Option, Some, None, refl, sym, ap, ◌∙◌, subst, arith, append-nil, append_assoc, nat_lt, ◌==◌}
 use Rattle.std.specs.List.{AllByRecursion}
 use Rattle.std.proofs.lemmas.Grind.{fold-append}
-use Rattle.lsm_below.specs.Entries.{Entry, above}
+use Rattle.lsm_below.specs.Entries.{Entry}
 use Rattle.lsm_below.specs.Each.{each_left, each_right}
 use Rattle.lsm_model.specs.Journal.{Event, Map, InOrder, InOrderFrom, MayCome, next_number, next_number_after, answer}
 use Rattle.lsm_model.specs.Views.{SuperVersion, view, sources, answered, found_at, lookup, front, ranges_of}
@@ -13,9 +13,9 @@ use Rattle.lsm_model.specs.Beginnings.{Saved, Deed, Done, Lost, Does, Deeds, tol
 use Rattle.lsm_model.specs.declared.journal.JournalEntry.TheVariants.{Write, Clear, Install, Dropped, Mark, Read}
 use Rattle.lsm_model.specs.declared.question.Question.{Question}
 use Rattle.lsm_model.specs.declared.question.Answer.{Answer}
+use Rattle.lsm_model.proofs.Journals.{floor-le}
 use Rattle.lsm_run_model.specs.Repeating.{ReadsShareAMap, CameAboutReads}
 use Rattle.lsm_run_model.proofs.Numbers.{deeds_grow}
-use Rattle.lsm_run_model.proofs.Rising.{floor_low}
 
 -- ---- lists
 
@@ -123,7 +123,7 @@ module _ (theory : Soundness) (opened : List Entry) (start : Map) where
   recent old journal n h same o =
       let m = order_last opened journal (Install n) o in
       let r = h.sound.recent in
-      let f = floor_low 0 (above opened) old.journal (omega arith) in omega arith
+      let f = floor-le opened old.journal in omega arith
 
   same_found : (s : ℕ) (old new : State) → new.latest.number ≡ old.latest.number → new.older ≡ old.older → (sv : SuperVersion) → found_at s new.latest new.older ≡ Some sv → IsFoundAt s old
   same_found s old new n o sv e = at_zero (s == 0) refl
@@ -160,7 +160,7 @@ module _ (theory : Soundness) (opened : List Entry) (start : Map) where
       let number : new.latest.number ≡ n = ap (λ (t : State). t.latest.number) d.1 in
       let m = order_last opened old.journal (Clear n) (subst (InOrder opened) journal o) in
       let r = h.sound.recent in
-      let f = floor_low 0 (above opened) old.journal (omega arith) in
+      let f = floor-le opened old.journal in
       record { events = Clear n ∷ []; journal = journal; unread = (tt, tt); stays = λ s all. theory.spares.step opened start s old (Cleared n a) new d o all.0 h; back = λ s. committed_found s old new (ap (λ (t : State). t.older) d.1) (omega arith) }
   adds old (Marked w) new q d o h = record { events = Mark w ∷ []; journal = ap (λ (t : State). t.journal) d; unread = (tt, tt); stays = λ s all. theory.spares.step opened start s old (Marked w) new d o tt h; back = λ s. same_found s old new (ap (λ (t : State). t.latest.number) d) (ap (λ (t : State). t.older) d) }
   adds old (LostDrop ranges n) new q d o h = record { events = Dropped ranges n ∷ []; journal = ap (λ (t : State). t.journal) d; unread = (tt, tt); stays = λ s all. theory.spares.step opened start s old (LostDrop ranges n) new d o tt h; back = λ s. same_found s old new (ap (λ (t : State). t.latest.number) d) (ap (λ (t : State). t.older) d) }

@@ -5,10 +5,12 @@ use Rattle.std.proofs.lemmas.Grind.{fold-append}
 use Rattle.lsm_below.specs.Keys.{Bytes, is_same}
 use Rattle.lsm_below.specs.Entries.{Entry, above, stack, values, is_value, is_weak}
 use Rattle.lsm_below.specs.Members.{IsIn}
+use Rattle.lsm_below.specs.Orders.{same_swap}
 use Rattle.lsm_model.specs.Journal.{Event, InOrder, next_after, next_of, next_number_after, next_number, floor_after, floor, sets_after, sets_of}
 use Rattle.lsm_model.specs.Views.{EachPair}
 use Rattle.lsm_model.specs.Laws.{MapsAreRead}
 use Rattle.lsm_model.specs.declared.journal.JournalEntry.TheVariants.{Write, Clear, Install, Dropped, Mark, Read}
+use Rattle.lsm_model.proofs.Journals.{next_of-le, floor-le}
 use Rattle.lsm_run_model.specs.Outcomes.{Told, journal_of}
 use Rattle.lsm_run_model.specs.Rising.{Drawing, Silent, Own, Raises, Reserves, Draws, Standing, At, UpTo, IsWhere, most, moved, unused, MayDraw, RisesFrom, Asks, times, WeakOnce, IsUnnumbered, IsBatch, IsCommitted, UsesNumbers, UsesKeys, EachUses, StandsBelow, StaysInOrder, RisingIsInOrder, RisingFront, RisingLower}
 use Rattle.lsm_run_model.proofs.Numbers.{order_more}
@@ -16,69 +18,15 @@ use Rattle.lsm_run_model.proofs.Numbers.{order_more}
 -- ---- keys
 
 -- keys that differ do so the other way round
-differ_back : MapsAreRead → (a b : Bytes) → is_same a b ≡ false → is_same b a ≡ false
-differ_back maps a b d = one (is_same b a) refl
-  where
-    one : (q : Bool) → is_same b a ≡ q → is_same b a ≡ false
-    one false e = e
-    one true e =
-        let same = maps.same_key b a e in
-        let other : is_same b a ≡ false = subst (λ k. is_same k a ≡ false) (sym same) (subst (λ k. is_same a k ≡ false) same d) in
-        other
+each_back : (e : Entry) (es : List Entry) → AllByRecursion (λ f. is_same e.key.user_key f.key.user_key ≡ false) es → AllByRecursion (λ f. is_same f.key.user_key e.key.user_key ≡ false) es
+each_back e [] h = tt
+each_back e (f ∷ es) h = (same_swap f.key.user_key e.key.user_key ∙ h.0, each_back e es h.1)
 
-each_back : MapsAreRead → (e : Entry) (es : List Entry) → AllByRecursion (λ f. is_same e.key.user_key f.key.user_key ≡ false) es → AllByRecursion (λ f. is_same f.key.user_key e.key.user_key ≡ false) es
-each_back maps e [] h = tt
-each_back maps e (f ∷ es) h = (differ_back maps e.key.user_key f.key.user_key h.0, each_back maps e es h.1)
-
-pairs_back : MapsAreRead → (es : List Entry) → EachPair (λ e f. is_same e.key.user_key f.key.user_key ≡ false) es → EachPair (λ e f. is_same f.key.user_key e.key.user_key ≡ false) es
-pairs_back maps [] h = tt
-pairs_back maps (e ∷ es) h = (each_back maps e es h.0, pairs_back maps es h.1)
-
--- ---- numbers
-
-floor_one : (a b : ℕ) (x : Event) → a ≤ b → floor_after a x ≤ next_number_after b x
-floor_one a b (Write e) l = omega arith
-floor_one a b (Clear n) l = omega arith
-floor_one a b (Install n) l = omega arith
-floor_one a b (Dropped ranges n) l = l
-floor_one a b (Mark w) l = l
-floor_one a b (Read s question told) l = l
-
-pub floor_low : (a b : ℕ) (journal : List Event) → a ≤ b → fold floor_after a journal ≤ fold next_number_after b journal
-floor_low a b [] l = l
-floor_low a b (x ∷ journal) l = floor_low (floor_after a x) (next_number_after b x) journal (floor_one a b x l)
-
-next_one : (k : Bytes) (a b : ℕ) (x : Event) → a ≤ b → next_after k a x ≤ next_number_after b x
-next_one k a b (Write e) l = elim (is_same k e.key.user_key) as (λ q. cond q (max a (e.key.seqno + 1)) a ≤ max b (e.key.seqno + 1)) [
-  | true ↦ omega arith
-  | false ↦ omega arith
-]
-next_one k a b (Clear n) l = omega arith
-next_one k a b (Install n) l = omega arith
-next_one k a b (Dropped ranges n) l = l
-next_one k a b (Mark w) l = l
-next_one k a b (Read s question told) l = l
-
-next_low : (k : Bytes) (a b : ℕ) (journal : List Event) → a ≤ b → fold (next_after k) a journal ≤ fold next_number_after b journal
-next_low k a b [] l = l
-next_low k a b (x ∷ journal) l = next_low k (next_after k a x) (next_number_after b x) journal (next_one k a b x l)
-
-above_stack : (k : Bytes) (es : List Entry) → above (stack k es) ≤ above es
-above_stack k [] = omega arith
-above_stack k (e ∷ es) =
-    let ih = above_stack k es in
-    elim (is_same k e.key.user_key) as (λ b. above (cond b (e ∷ stack k es) (stack k es)) ≤ max (e.key.seqno + 1) (above es)) [
-      | true ↦ omega arith
-      | false ↦ omega arith
-    ]
+pairs_back : (es : List Entry) → EachPair (λ e f. is_same e.key.user_key f.key.user_key ≡ false) es → EachPair (λ e f. is_same f.key.user_key e.key.user_key ≡ false) es
+pairs_back [] h = tt
+pairs_back (e ∷ es) h = (each_back e es h.0, pairs_back es h.1)
 
 module _ (maps : MapsAreRead) (opened : List Entry) where
-  floor_number : (journal : List Event) → floor journal ≤ next_number opened journal
-  floor_number journal = floor_low 0 (above opened) journal (omega arith)
-
-  next_of_number : (k : Bytes) (journal : List Event) → next_of k opened journal ≤ next_number opened journal
-  next_of_number k journal = next_low k (above (stack k opened)) (above opened) journal (above_stack k opened)
-
   -- ---- events
 
   -- what stands in order, below a number
@@ -109,8 +57,8 @@ module _ (maps : MapsAreRead) (opened : List Entry) where
 
   own_write : (journal : List Event) (e : Entry) (n : ℕ) → e.key.seqno ≡ n → IsSpent journal e → IsBelow journal n → IsBelow (journal ++ Write e ∷ []) (n + 1)
   own_write journal e n is spent h =
-      let f = floor_number journal in
-      let own = next_of_number e.key.user_key journal in
+      let f = floor-le opened journal in
+      let own = next_of-le e.key.user_key opened journal in
       let l = h.1 in
       let to = number_more journal (Write e) in (write_one journal e n is spent (omega arith) (omega arith) h.0, omega arith)
 
@@ -145,7 +93,7 @@ module _ (maps : MapsAreRead) (opened : List Entry) where
 
   each_low : (journal : List Event) (n : ℕ) (es : List Entry) → next_number opened journal ≤ n → AllByRecursion (λ f. next_of f.key.user_key opened journal ≤ n) es
   each_low journal n [] l = tt
-  each_low journal n (e ∷ es) l = (let a = next_of_number e.key.user_key journal in omega arith, each_low journal n es l)
+  each_low journal n (e ∷ es) l = (let a = next_of-le e.key.user_key opened journal in omega arith, each_low journal n es l)
 
   -- an install or a clear
   committed : (journal : List Event) (x : Event) (n : ℕ) → (x ≡ Install n) ⊎ (x ≡ Clear n) → IsBelow journal n → IsBelow (journal ++ x ∷ []) (n + 1)
@@ -302,7 +250,7 @@ module _ (maps : MapsAreRead) (opened : List Entry) where
         (λ (w : IsBatch old events).
         let own = subst (UsesKeys call) w.are keys in
         let b = subst (λ es. IsBelow (journal ++ es) (old + 1)) (sym w.are)
-        (batch journal old w.entries w.numbered (pairs_back maps w.entries w.distinct) (all_spent w.entries own) (let f = floor_number journal in omega arith) (each_low journal old w.entries h) (omega arith) stands.order) in
+        (batch journal old w.entries w.numbered (pairs_back w.entries w.distinct) (all_spent w.entries own) (let f = floor-le opened journal in omega arith) (each_low journal old w.entries h) (omega arith) stands.order) in
         let l = b.1 in
         record {
           below = record {
