@@ -1,5 +1,6 @@
 pub mod Memtables
 pub mod Blocks
+pub mod Inserts
 pub mod Contents
 pub mod Undo
 pub mod Parts

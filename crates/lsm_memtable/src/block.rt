@@ -10,6 +10,7 @@ ghost use Rattle.lsm_below.specs.Lookups.{stands_before};
 ghost use Rattle.lsm_below.specs.Sums.{capped};
 ghost use Rattle.lsm_below.specs.Heads.{key_head};
 ghost use Rattle.lsm_memtable.specs.Blocks.{CountsDigits};
+ghost use Rattle.lsm_memtable.specs.Inserts.{MovesFew};
 
 use crate::Steps;
 use crate::spread::spread;
@@ -219,10 +220,9 @@ impl Block {
         requires place { place ≤ length self.old }
         requires few { length self.old < 64 }
         ensures ok { OnOk result (self.new ≡ insert self.old place entry) }
-        ensures err { OnErr result ((self.new ≡ self.old) × (steps.new ≡ steps.old)) }
+        ensures err { OnErr result (self.new ≡ self.old) }
         ensures counted { OnOk result (capped (steps.old.moved + (length self.old - place)) ≤ steps.new.moved) }
-        ensures moved { steps.new.moved ≤ steps.old.moved + 64 }
-        ensures compared { steps.new.compared ≡ steps.old.compared }
+        ensures moves { MovesFew result steps.old steps.new }
     {
         let len = self.entries.len();
         if len < self.heads.capacity() && len < self.entries.capacity() {
@@ -252,9 +252,8 @@ impl Block {
         requires full { length self.old ≡ 64 }
         ensures ok { IfOk result (λ upper. (self.new ++ upper ≡ insert self.old place entry) × (length self.new ≡ 32)) }
         ensures counted { OnOk result (steps.new.moved ≡ capped (steps.old.moved + 64)) }
-        ensures err { OnErr result ((self.new ≡ self.old) × (steps.new ≡ steps.old)) }
-        ensures moved { steps.new.moved ≤ steps.old.moved + 64 }
-        ensures compared { steps.new.compared ≡ steps.old.compared }
+        ensures err { OnErr result (self.new ≡ self.old) }
+        ensures moves { MovesFew result steps.old steps.new }
     {
         self.rebuild(alloc, HALF, HALF + STEP, place, entry, steps)
     }
@@ -276,9 +275,8 @@ impl Block {
         requires room { length self.old + 1 ≤ keep + room }
         ensures ok { IfOk result (λ rest. (self.new ++ rest ≡ insert self.old place entry) × (length self.new ≡ min keep (length self.old + 1))) }
         ensures counted { OnOk result (steps.new.moved ≡ capped (steps.old.moved + length self.old)) }
-        ensures err { OnErr result ((self.new ≡ self.old) × (steps.new ≡ steps.old)) }
-        ensures moved { steps.new.moved ≤ steps.old.moved + length self.old }
-        ensures compared { steps.new.compared ≡ steps.old.compared }
+        ensures err { OnErr result (self.new ≡ self.old) }
+        ensures moves { MovesFew result steps.old steps.new }
     {
         let len = self.entries.len();
         let left = if len < keep { 0 } else { room };

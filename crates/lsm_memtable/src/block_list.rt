@@ -1,13 +1,14 @@
 // Blocks that together are one list: search, insert, split.
 ghost use Rattle.std.specs.Prelude.{◌≡◌, ℕ, ◌+◌, ◌-◌, ◌<◌, ◌≤◌, [], length, List, IfOk, OnOk, OnErr, option_copied, true, false, slice_index_or, slice_set, take};
-ghost use Rattle.std.specs.List.{All, insert, remove};
+ghost use Rattle.std.specs.List.{All, remove};
 ghost use Rattle.std.specs.Ordering.{is_eq};
 ghost use Rattle.lsm_below.specs.declared.value.InternalValue.{InternalValue};
 ghost use Rattle.lsm_below.specs.Entries.{entry_cmp, key_cmp};
 ghost use Rattle.lsm_below.specs.Sorted.{put, first};
 ghost use Rattle.lsm_below.specs.Lookups.{is_visible, stands_before};
 ghost use Rattle.lsm_below.specs.Heads.{key_head};
-ghost use Rattle.lsm_memtable.specs.Blocks.{joined, spot, AreBlocks, IsFilled, IsPlace, CountsDigits};
+ghost use Rattle.lsm_memtable.specs.Blocks.{joined, spot, AreBlocks, IsFilled, HasPlace, IsPlace, CountsDigits};
+ghost use Rattle.lsm_memtable.specs.Inserts.{Inserts, MovesFew};
 ghost use Rattle.lsm_memtable.specs.Undo.{Undoes, AreUndone, undo_of};
 
 use crate::Steps;
@@ -139,16 +140,11 @@ fn insert_in(
     entry: InternalValue,
     steps: &mut Steps,
 ) -> Result<(), AllocError>
-    requires block { place.block < length blocks.old.items }
-    requires at { place.at ≤ length (slice_index_or blocks.old.items place.block []) }
+    requires place { HasPlace blocks.old.items place.block place.at }
     requires few { length (slice_index_or blocks.old.items place.block []) < 64 }
     requires filled { All IsFilled blocks.old.items }
-    ensures ok { OnOk result (joined blocks.new.items ≡ insert (joined blocks.old.items) (spot blocks.old.items place.block place.at) entry) }
-    ensures err { OnErr result (blocks.new.items ≡ blocks.old.items) }
-    ensures filled { All IsFilled blocks.new.items }
-    ensures moved { steps.new.moved ≤ steps.old.moved + 64 }
-    ensures unmoved { OnErr result (steps.new.moved ≡ steps.old.moved) }
-    ensures compared { steps.new.compared ≡ steps.old.compared }
+    ensures inserts { Inserts result blocks.old.items blocks.new.items (spot blocks.old.items place.block place.at) entry }
+    ensures moves { MovesFew result steps.old steps.new }
 {
     blocks[place.block].insert(alloc, place.at, entry, steps)?;
     Ok(())
@@ -162,16 +158,11 @@ fn split_in(
     entry: InternalValue,
     steps: &mut Steps,
 ) -> Result<(), AllocError>
-    requires block { place.block < length blocks.old.items }
-    requires at { place.at ≤ length (slice_index_or blocks.old.items place.block []) }
+    requires place { HasPlace blocks.old.items place.block place.at }
     requires full { length (slice_index_or blocks.old.items place.block []) ≡ 64 }
     requires filled { All IsFilled blocks.old.items }
-    ensures ok { OnOk result (joined blocks.new.items ≡ insert (joined blocks.old.items) (spot blocks.old.items place.block place.at) entry) }
-    ensures err { OnErr result (blocks.new.items ≡ blocks.old.items) }
-    ensures filled { All IsFilled blocks.new.items }
-    ensures moved { steps.new.moved ≤ steps.old.moved + 64 }
-    ensures unmoved { OnErr result (steps.new.moved ≡ steps.old.moved) }
-    ensures compared { steps.new.compared ≡ steps.old.compared }
+    ensures inserts { Inserts result blocks.old.items blocks.new.items (spot blocks.old.items place.block place.at) entry }
+    ensures moves { MovesFew result steps.old steps.new }
 {
     blocks.reserve(1)?;
     let upper = blocks[place.block].split(alloc, place.at, entry, steps)?;
@@ -201,9 +192,7 @@ fn begin_block(
 ) -> Result<(), AllocError>
     requires block { block ≤ length blocks.old.items }
     requires filled { All IsFilled blocks.old.items }
-    ensures ok { OnOk result (joined blocks.new.items ≡ insert (joined blocks.old.items) (spot blocks.old.items block 0) entry) }
-    ensures err { OnErr result (blocks.new.items ≡ blocks.old.items) }
-    ensures filled { All IsFilled blocks.new.items }
+    ensures { Inserts result blocks.old.items blocks.new.items (spot blocks.old.items block 0) entry }
 {
     blocks.reserve(1)?;
     let new = Block::of(alloc, room_for(blocks, block), entry)?;
@@ -222,12 +211,8 @@ fn insert_before(
 ) -> Result<(), AllocError>
     requires block { block ≤ length blocks.old.items }
     requires filled { All IsFilled blocks.old.items }
-    ensures ok { OnOk result (joined blocks.new.items ≡ insert (joined blocks.old.items) (spot blocks.old.items block 0) entry) }
-    ensures err { OnErr result (blocks.new.items ≡ blocks.old.items) }
-    ensures filled { All IsFilled blocks.new.items }
-    ensures moved { steps.new.moved ≤ steps.old.moved + 64 }
-    ensures unmoved { OnErr result (steps.new.moved ≡ steps.old.moved) }
-    ensures compared { steps.new.compared ≡ steps.old.compared }
+    ensures inserts { Inserts result blocks.old.items blocks.new.items (spot blocks.old.items block 0) entry }
+    ensures moves { MovesFew result steps.old steps.new }
 {
     if 0 < block {
         let at = blocks[block - 1].len();
@@ -252,15 +237,10 @@ fn insert_at(
     entry: InternalValue,
     steps: &mut Steps,
 ) -> Result<(), AllocError>
-    requires block { place.block < length blocks.old.items }
-    requires at { place.at ≤ length (slice_index_or blocks.old.items place.block []) }
+    requires place { HasPlace blocks.old.items place.block place.at }
     requires filled { All IsFilled blocks.old.items }
-    ensures ok { OnOk result (joined blocks.new.items ≡ insert (joined blocks.old.items) (spot blocks.old.items place.block place.at) entry) }
-    ensures err { OnErr result (blocks.new.items ≡ blocks.old.items) }
-    ensures filled { All IsFilled blocks.new.items }
-    ensures moved { steps.new.moved ≤ steps.old.moved + 64 }
-    ensures unmoved { OnErr result (steps.new.moved ≡ steps.old.moved) }
-    ensures compared { steps.new.compared ≡ steps.old.compared }
+    ensures inserts { Inserts result blocks.old.items blocks.new.items (spot blocks.old.items place.block place.at) entry }
+    ensures moves { MovesFew result steps.old steps.new }
 {
     let len = blocks[place.block].len();
     if len < MOST {

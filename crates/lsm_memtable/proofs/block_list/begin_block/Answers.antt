@@ -1,15 +1,16 @@
-use Rattle.std.proofs.Common.{ap, subst, sym, ◌∙◌}
+use Rattle.std.proofs.Common.{◌≡◌, ap, subst, sym, ◌∙◌}
 use Rattle.std.specs.List.{All, insert}
 use Rattle.lsm_memtable.specs.Blocks.{joined, IsFilled}
 use Rattle.lsm_memtable.proofs.Joined.{begun, filled_begun}
 use Rattle.lsm_memtable.proofs.block_list.begin_block.Goals as goal
 
-pub returns-clause-ok : goal.returns-clause-ok
-returns-clause-ok c =
-    let items = rw c.unwrap.ensures at c.insert.ensures.items in
-    ap joined (items ∙ ap (λ l. insert l c.args.block c.in_ok-new.new) c.reserve.ensures.items) ∙ begun c.args.blocks.now.items c.args.block c.in_ok-new.new c.args.entry c.in_ok-new.ensures
-
-pub returns-clause-filled : goal.returns-clause-filled
-returns-clause-filled c =
-    let items = rw c.unwrap.ensures at c.insert.ensures.items in
-    subst (λ l. All IsFilled l) (sym (items ∙ ap (λ l. insert l c.args.block c.in_ok-new.new) c.reserve.ensures.items)) (filled_begun c.args.blocks.now.items c.args.block c.in_ok-new.new c.args.entry c.in_ok-new.ensures c.requires.filled)
+pub returns : goal.returns
+returns c =
+    let bs = c.args.blocks.now.items in
+    let new = c.in_ok-new.new in
+    let items : c.insert.new.self.items ≡ insert bs c.args.block new = rw c.unwrap.ensures at c.insert.ensures.items ∙ ap (λ l. insert l c.args.block new) c.reserve.ensures.items in
+    record {
+      ok = ap joined items ∙ begun bs c.args.block new c.args.entry c.in_ok-new.ensures;
+      err = tt;
+      filled = subst (λ l. All IsFilled l) (sym items) (filled_begun bs c.args.block new c.args.entry c.in_ok-new.ensures c.requires.filled);
+    }

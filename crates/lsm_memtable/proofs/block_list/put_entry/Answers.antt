@@ -64,11 +64,11 @@ returns-then-is_taken-clause-sound c = sound_put c.entries_are_ordered.ensures c
 
 pub returns-clause-ok : goal.returns-clause-ok
 returns-clause-ok c =
-    c.in_ok-insert_at.ensures.ok
+    c.in_ok-insert_at.ensures.inserts.ok
     ∙ sym (between c.entries_are_ordered.ensures c.args.blocks.now.items c.requires c.args.entry c.as_slice.result.now c.find-place.result.block c.find-place.result.at c.as_slice.ensures c.find-place.ensures.place (λ lt d. c.is_taken.ensures.other d c.if-is_taken.false lt))
 
 pub returns-clause-undo : goal.returns-clause-undo
-returns-clause-undo c = undoes c.entries_are_ordered.ensures c.args.blocks.now.items c.requires c.args.entry c.as_slice.result.now c.find-place.result.block c.find-place.result.at c.as_slice.ensures c.find-place.ensures.place None _ c.in_ok-insert_at.ensures.ok
+returns-clause-undo c = undoes c.entries_are_ordered.ensures c.args.blocks.now.items c.requires c.args.entry c.as_slice.result.now c.find-place.result.block c.find-place.result.at c.as_slice.ensures c.find-place.ensures.place None _ c.in_ok-insert_at.ensures.inserts.ok
 
 pub returns-clause-sound : goal.returns-clause-sound
-returns-clause-sound c = sound_put c.entries_are_ordered.ensures c.args.blocks.now.items _ c.args.entry c.requires (returns-clause-ok c) c.in_ok-insert_at.ensures.filled (omega arith)
+returns-clause-sound c = sound_put c.entries_are_ordered.ensures c.args.blocks.now.items _ c.args.entry c.requires (returns-clause-ok c) c.in_ok-insert_at.ensures.inserts.filled (omega arith)

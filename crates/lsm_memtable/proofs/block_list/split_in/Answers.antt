@@ -25,8 +25,14 @@ module _ (bs : List (List Entry)) (b i : ℕ) (e : Entry) (lower upper block : L
       let up : length upper ≡ 33 = omega (arith, low, ap (λ l. length l) dealt, len, length-append lower upper, more, full) in
       subst (λ l. All IsFilled l) (sym placed) (filled_cut bs b lower upper block_in (omega (arith, low), omega (arith, low)) (omega (arith, up), omega (arith, up)) all)
 
-pub returns-clause-ok : goal.returns-clause-ok
-returns-clause-ok c = inserts c.args.blocks.now.items c.args.place.block c.args.place.at c.args.entry c.split.new.self c.in_ok-upper.upper c.index_mut.result.now c.requires.block c.requires.at _ c.reserve.ensures.items c.index_mut.ensures.value c.insert.new.self.items (rw c.unwrap.ensures at c.insert.ensures.items) c.in_ok-upper.ensures.ok.0
-
-pub returns-clause-filled : goal.returns-clause-filled
-returns-clause-filled c = filled c.args.blocks.now.items c.args.place.block c.args.place.at c.args.entry c.split.new.self c.in_ok-upper.upper c.index_mut.result.now c.requires.block c.requires.at _ c.reserve.ensures.items c.index_mut.ensures.value c.insert.new.self.items (rw c.unwrap.ensures at c.insert.ensures.items) c.in_ok-upper.ensures.ok.0 c.requires.full c.in_ok-upper.ensures.ok.1 c.requires.filled
+pub returns-clause-inserts : goal.returns-clause-inserts
+returns-clause-inserts c =
+    let bs = c.args.blocks.now.items in
+    let upper = c.in_ok-upper.upper in
+    let dealt = c.in_ok-upper.ensures.ok in
+    let items = rw c.unwrap.ensures at c.insert.ensures.items in
+    record {
+      ok = inserts bs c.args.place.block c.args.place.at c.args.entry c.split.new.self upper c.index_mut.result.now c.requires.place.0 c.requires.place.1 _ c.reserve.ensures.items c.index_mut.ensures.value c.insert.new.self.items items dealt.0;
+      err = tt;
+      filled = filled bs c.args.place.block c.args.place.at c.args.entry c.split.new.self upper c.index_mut.result.now c.requires.place.0 c.requires.place.1 _ c.reserve.ensures.items c.index_mut.ensures.value c.insert.new.self.items items dealt.0 c.requires.full dealt.1 c.requires.filled;
+    }
