@@ -1,5 +1,5 @@
 // A sorted table of entries in memory.
-ghost use Rattle.std.specs.Prelude.{◌≡◌, ◌+◌, ◌<◌, ◌≤◌, ◌↔◌, [], ◌∷◌, List, length, IsTrue, IfOk, IfErr, OnOk, OnErr, IfSome, IfNone, option_copied, vec_len, vec_capacity, true, MatchOption};
+ghost use Rattle.std.specs.Prelude.{◌≡◌, ℕ, ◌+◌, ◌<◌, ◌≤◌, ◌↔◌, [], ◌∷◌, List, length, IsTrue, IfOk, IfErr, OnOk, OnErr, IfSome, IfNone, option_copied, vec_len, vec_capacity, true, MatchOption};
 ghost use Rattle.lsm_below.specs.declared.value.InternalValue.{InternalValue};
 ghost use Rattle.lsm_below.specs.Entries.{Entry, entry_cmp, top};
 ghost use Rattle.lsm_below.specs.Sorted.{Rises};
@@ -7,7 +7,7 @@ ghost use Rattle.lsm_memtable.specs.Memtables.{SeenMemtable, entry_size, new_mem
 ghost use Rattle.lsm_memtable.specs.Blocks.{AreBlocksOf, CountsDigits};
 ghost use Rattle.lsm_memtable.specs.Contents.{content_of, entries_of, added, all_added, IsContent};
 ghost use Rattle.lsm_memtable.specs.Undo.{Undoes, AreUndone, undo_of};
-ghost use Rattle.lsm_memtable.specs.Revoking.{TakesBack};
+ghost use Rattle.lsm_memtable.specs.Revoking.{Reverts, TakesBack};
 
 use crate::arena::housed;
 use crate::block::Block;
@@ -184,63 +184,31 @@ pub struct Revocable {
     highest: Option<SeqNo>,
 }
 
-/// Puts each entry in its place, in turn, and answers what takes them back. Refused only for want of memory, and then
-/// nothing changes.
-fn add_revocably(
-    content: &mut Content,
-    alloc: Global,
-    batch: Vec<InternalValue>,
-) -> Result<Revocable, AllocError>
-    requires { IsContent content.old }
-    ensures ok { OnOk result (content_of content.new ≡ all_added batch.items (content_of content.old)) }
-    ensures puts { IfOk result (λ r. AreUndone r.log.items (entries_of content.old) (entries_of content.new)) }
-    ensures count { IfOk result (λ r. r.count ≡ content.old.count) }
-    ensures size { IfOk result (λ r. r.size ≡ content.old.size) }
-    ensures highest { IfOk result (λ r. r.highest ≡ content.old.highest) }
-    ensures err { OnErr result (content_of content.new ≡ content_of content.old) }
-    ensures sound { IsContent content.new }
+/// What takes back the puts that are made from now on, with room to note so many. Refused only for want of memory.
+fn begin_batch(content: &Content, alloc: Global, room: usize) -> Result<Revocable, AllocError>
+    requires { IsContent content.now }
+    ensures reverts { IfOk result (λ r. Reverts r (entries_of content.now) content.now.size (entries_of content.now)) }
+    ensures room { IfOk result (λ r. vec_len r.log + room ≤ vec_capacity r.log) }
 {
-    let (count, size, highest) = (content.count, content.size, content.highest);
-    let mut log = Vec::with_capacity(alloc, batch.len())?;
-    let Err(error) = add_entries(content, alloc, batch, &mut log) else {
-        return Ok(Revocable {
-            log,
-            count,
-            size,
-            highest,
-        });
-    };
-    take_all_back(&mut content.blocks, log);
-    content.count = count;
-    content.size = size;
-    content.highest = highest;
-    Err(error)
+    Ok(Revocable {
+        log: Vec::with_capacity(alloc, room)?,
+        count: content.count,
+        size: content.size,
+        highest: content.highest,
+    })
 }
 
-/// `add_revocably`, of one entry, which needs no list.
-fn add_one_revocably(
-    content: &mut Content,
-    alloc: Global,
-    entry: InternalValue,
-) -> Result<Revocable, AllocError>
-    requires { IsContent content.old }
-    ensures ok { OnOk result (content_of content.new ≡ all_added (entry ∷ []) (content_of content.old)) }
-    ensures puts { IfOk result (λ r. AreUndone r.log.items (entries_of content.old) (entries_of content.new)) }
-    ensures count { IfOk result (λ r. r.count ≡ content.old.count) }
-    ensures size { IfOk result (λ r. r.size ≡ content.old.size) }
-    ensures highest { IfOk result (λ r. r.highest ≡ content.old.highest) }
-    ensures err { OnErr result (content_of content.new ≡ content_of content.old) }
+/// Takes a batch back.
+fn revert(content: &mut Content, batch: Revocable)
+    requires sound { IsContent content.old }
+    requires made { (before : List Entry) × (total : ℕ) × Reverts batch before total (entries_of content.old) }
+    ensures same { (before : List Entry) (total : ℕ) → Reverts batch before total (entries_of content.old) → content_of content.new ≡ record { entries = before; size = total; highest = highest_of before } }
     ensures sound { IsContent content.new }
 {
-    let (count, size, highest) = (content.count, content.size, content.highest);
-    let mut log = Vec::with_capacity(alloc, 1)?;
-    add_noted(content, alloc, entry, &mut log)?;
-    Ok(Revocable {
-        log,
-        count,
-        size,
-        highest,
-    })
+    take_all_back(&mut content.blocks, batch.log);
+    content.count = batch.count;
+    content.size = batch.size;
+    content.highest = batch.highest;
 }
 
 impl Memtable {
@@ -447,7 +415,13 @@ impl Memtable {
         ensures err { OnErr result (self.new ≡ self.old) }
         ensures memory { IfErr result (λ e. e ≡ Error.OutOfMemory) }
     {
-        Ok(add_revocably(&mut self.content, self.alloc, batch)?)
+        let mut revocable = begin_batch(&self.content, self.alloc, batch.len())?;
+        let log = &mut revocable.log;
+        if let Err(error) = add_entries(&mut self.content, self.alloc, batch, log) {
+            revert(&mut self.content, revocable);
+            return Err(error.into());
+        }
+        Ok(revocable)
     }
 
     /// `insert_all_revocably`, of one entry, which needs no list.
@@ -458,7 +432,9 @@ impl Memtable {
         ensures err { OnErr result (self.new ≡ self.old) }
         ensures memory { IfErr result (λ e. e ≡ Error.OutOfMemory) }
     {
-        Ok(add_one_revocably(&mut self.content, self.alloc, item)?)
+        let mut revocable = begin_batch(&self.content, self.alloc, 1)?;
+        add_noted(&mut self.content, self.alloc, item, &mut revocable.log)?;
+        Ok(revocable)
     }
 
     /// Takes a batch back: the memtable is as it was. It takes no memory.
@@ -466,9 +442,6 @@ impl Memtable {
         requires { (before : SeenMemtable) × TakesBack batch before self.old }
         ensures { (before : SeenMemtable) → TakesBack batch before self.old → self.new ≡ before }
     {
-        take_all_back(&mut self.content.blocks, batch.log);
-        self.content.count = batch.count;
-        self.content.size = batch.size;
-        self.content.highest = batch.highest;
+        revert(&mut self.content, batch);
     }
 }
