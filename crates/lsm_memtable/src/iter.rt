@@ -44,116 +44,6 @@ impl<'a> Model for Iter<'a> {
     ghost invariant = { λ s. All IsFilled (blocks_of s.middle) };
 }
 
-/// The first entry, and what comes after it.
-fn split_front<'a>(
-    front: Stretch<'a>,
-    middle: Part<'a>,
-    back: Stretch<'a>,
-) -> Option<(Headed<'a>, Iter<'a>)>
-    requires { All IsFilled (blocks_of middle) }
-    ensures { MatchOption result
-        (front.entry ++ (joined (blocks_of middle.entry) ++ back.entry) ≡ [])
-        (λ p. front.entry ++ (joined (blocks_of middle.entry) ++ back.entry) ≡ p.0 ∷ p.1) }
-{
-    if let Some((entry, front)) = front.split_first() {
-        let rest = Iter {
-            front,
-            middle,
-            back,
-        };
-        return Some((entry, rest));
-    }
-    let Some((block, middle)) = middle.split_first() else {
-        let (entry, front) = back.split_first()?;
-        let rest = Iter {
-            front,
-            middle,
-            back: Stretch::empty(),
-        };
-        return Some((entry, rest));
-    };
-    let (entry, front) = block.stretch().split_first()?;
-    let rest = Iter {
-        front,
-        middle,
-        back,
-    };
-    Some((entry, rest))
-}
-
-/// The last entry, and what is before it.
-fn split_back<'a>(
-    front: Stretch<'a>,
-    middle: Part<'a>,
-    back: Stretch<'a>,
-) -> Option<(Headed<'a>, Iter<'a>)>
-    requires { All IsFilled (blocks_of middle) }
-    ensures { MatchOption result
-        (front.entry ++ (joined (blocks_of middle.entry) ++ back.entry) ≡ [])
-        (λ p. front.entry ++ (joined (blocks_of middle.entry) ++ back.entry) ≡ p.1 ++ p.0 ∷ []) }
-{
-    if let Some((entry, back)) = back.split_last() {
-        let rest = Iter {
-            front,
-            middle,
-            back,
-        };
-        return Some((entry, rest));
-    }
-    let Some((block, middle)) = middle.split_last() else {
-        let (entry, back) = front.split_last()?;
-        let rest = Iter {
-            front: Stretch::empty(),
-            middle,
-            back,
-        };
-        return Some((entry, rest));
-    };
-    let (entry, back) = block.stretch().split_last()?;
-    let rest = Iter {
-        front,
-        middle,
-        back,
-    };
-    Some((entry, rest))
-}
-
-/// The entries of the first block, or what is left of it, and what comes after them.
-fn split_block<'a>(
-    front: Stretch<'a>,
-    middle: Part<'a>,
-    back: Stretch<'a>,
-) -> Option<(&'a [InternalValue], Iter<'a>)>
-    requires { All IsFilled (blocks_of middle) }
-    ensures parts { MatchOption result
-        (front.entry ++ (joined (blocks_of middle.entry) ++ back.entry) ≡ [])
-        (λ p. front.entry ++ (joined (blocks_of middle.entry) ++ back.entry) ≡ p.0.now ++ p.1) }
-    ensures some { IfSome result (λ p. 0 < length p.0.now) }
-{
-    let entries = front.entries();
-    if !entries.is_empty() {
-        let rest = Iter {
-            front: Stretch::empty(),
-            middle,
-            back,
-        };
-        return Some((entries, rest));
-    }
-    if let Some((block, middle)) = middle.split_first() {
-        let rest = Iter {
-            front: Stretch::empty(),
-            middle,
-            back,
-        };
-        return Some((block.as_slice(), rest));
-    }
-    let entries = back.entries();
-    if entries.is_empty() {
-        return None;
-    }
-    Some((entries, nothing()))
-}
-
 impl<'a> Iterator for Iter<'a> {
     type Item = &'a InternalValue;
 
@@ -162,8 +52,7 @@ impl<'a> Iterator for Iter<'a> {
     ghost remaining = { λ s. at_most (length s) };
 
     fn next(&mut self) -> Option<&'a InternalValue> {
-        let (headed, rest) = split_front(self.front.copy(), self.middle, self.back.copy())?;
-        *self = rest;
+        let headed = self.take_first()?;
         Some(headed.entry())
     }
 }
@@ -172,21 +61,72 @@ impl<'a> DoubleEndedIterator for Iter<'a> {
     ghost next_back_gives = { TakesLast };
 
     fn next_back(&mut self) -> Option<&'a InternalValue> {
-        let (headed, rest) = split_back(self.front.copy(), self.middle, self.back.copy())?;
-        *self = rest;
+        let headed = self.take_last()?;
         Some(headed.entry())
     }
 }
 
 impl<'a> Iter<'a> {
+    /// Takes the first entry, with its head.
+    fn take_first(&mut self) -> Option<Headed<'a>>
+        ensures { MatchOption result ((self.old ≡ []) × (self.new ≡ [])) (λ h. self.old ≡ h ∷ self.new) }
+    {
+        if let Some((headed, front)) = self.front.split_first() {
+            self.front = front;
+            return Some(headed);
+        }
+        if let Some((block, middle)) = self.middle.split_first() {
+            let (headed, front) = block.stretch().split_first()?;
+            self.front = front;
+            self.middle = middle;
+            return Some(headed);
+        }
+        let (headed, front) = self.back.split_first()?;
+        self.front = front;
+        self.back = Stretch::empty();
+        Some(headed)
+    }
+
+    /// Takes the last entry, with its head.
+    fn take_last(&mut self) -> Option<Headed<'a>>
+        ensures { MatchOption result ((self.old ≡ []) × (self.new ≡ [])) (λ h. self.old ≡ self.new ++ h ∷ []) }
+    {
+        if let Some((headed, back)) = self.back.split_last() {
+            self.back = back;
+            return Some(headed);
+        }
+        if let Some((block, middle)) = self.middle.split_last() {
+            let (headed, back) = block.stretch().split_last()?;
+            self.middle = middle;
+            self.back = back;
+            return Some(headed);
+        }
+        let (headed, back) = self.front.split_last()?;
+        self.front = Stretch::empty();
+        self.back = back;
+        Some(headed)
+    }
+
     /// The entries of the first block that is left, or what is left of it, all at once.
     pub fn next_block(&mut self) -> Option<&'a [InternalValue]>
         ensures parts { MatchOption result (self.old ≡ []) (λ block. self.old ≡ block.now ++ self.new) }
         ensures some { IfSome result (λ block. 0 < length block.now) }
     {
-        let (block, rest) = split_block(self.front.copy(), self.middle, self.back.copy())?;
-        *self = rest;
-        Some(block)
+        let entries = self.front.entries();
+        if !entries.is_empty() {
+            self.front = Stretch::empty();
+            return Some(entries);
+        }
+        if let Some((block, middle)) = self.middle.split_first() {
+            self.middle = middle;
+            return Some(block.as_slice());
+        }
+        let entries = self.back.entries();
+        if entries.is_empty() {
+            return None;
+        }
+        self.back = Stretch::empty();
+        Some(entries)
     }
 
     /// The first entry, where the first block is done.
@@ -194,8 +134,7 @@ impl<'a> Iter<'a> {
     fn first_behind(&self) -> Option<Headed<'a>>
         ensures { MatchOption result (self.now ≡ []) (λ h. self.now ≡ h ∷ drop 1 self.now) }
     {
-        let (headed, _) = split_front(self.front.copy(), self.middle, self.back.copy())?;
-        Some(headed)
+        self.copy().take_first()
     }
 
     /// The first entry, with its head.
@@ -214,8 +153,7 @@ impl<'a> Iter<'a> {
     fn last_before(&self) -> Option<Headed<'a>>
         ensures { MatchOption result (self.now ≡ []) (λ h. self.now ≡ take (length self.now - 1) self.now ++ h ∷ []) }
     {
-        let (headed, _) = split_back(self.front.copy(), self.middle, self.back.copy())?;
-        Some(headed)
+        self.copy().take_last()
     }
 
     /// The last entry, with its head.
@@ -234,9 +172,7 @@ impl<'a> Iter<'a> {
     fn drop_behind(&mut self)
         ensures { self.new ≡ drop 1 self.old }
     {
-        if let Some((_, rest)) = split_front(self.front.copy(), self.middle, self.back.copy()) {
-            *self = rest;
-        }
+        let _ = self.take_first();
     }
 
     /// Leaves the first entry out, if there is one.
@@ -256,9 +192,7 @@ impl<'a> Iter<'a> {
     fn drop_before(&mut self)
         ensures { self.new ≡ take (length self.old - 1) self.old }
     {
-        if let Some((_, rest)) = split_back(self.front.copy(), self.middle, self.back.copy()) {
-            *self = rest;
-        }
+        let _ = self.take_last();
     }
 
     /// Leaves the last entry out, if there is one.
