@@ -89,31 +89,19 @@ pub fn any_missing(
 fn kind_is_move(kind: Kind) -> bool
     ensures { result ≡ is_move kind }
 {
-    match kind {
-        Kind::Merge => false,
-        Kind::Move => true,
-        Kind::Drop => false,
-    }
+    matches!(kind, Kind::Move)
 }
 
 fn kind_is_merge(kind: Kind) -> bool
     ensures { result ≡ is_merge kind }
 {
-    match kind {
-        Kind::Merge => true,
-        Kind::Move => false,
-        Kind::Drop => false,
-    }
+    matches!(kind, Kind::Merge)
 }
 
 fn kind_is_drop(kind: Kind) -> bool
     ensures { result ≡ is_drop kind }
 {
-    match kind {
-        Kind::Merge => false,
-        Kind::Move => false,
-        Kind::Drop => true,
-    }
+    matches!(kind, Kind::Drop)
 }
 
 /// The first reason that holds.
@@ -155,7 +143,7 @@ fn gap_in_merge(kind: Kind, ids: &HashSet<TableId>, levels: &[Level]) -> bool
     kind_is_merge(kind) && levels_have_gap(ids, levels)
 }
 
-/// What is wrong between chosen tables and the others.
+/// What is wrong between chosen tables and the others: nothing, where they are dropped.
 #[derive(Drop)]
 struct Faults {
     order: bool,
@@ -163,22 +151,6 @@ struct Faults {
 }
 
 fn find_faults(
-    alloc: Global,
-    ids: &HashSet<TableId>,
-    to: usize,
-    levels: &[Level],
-) -> Result<Faults, AllocError>
-    requires { AreRuns levels.now }
-    ensures order { IfOk result (λ f. f.order ≡ any_bad OutOfOrder to ids.now.keys levels.now) }
-    ensures eviction { IfOk result (λ f. f.eviction ≡ any_bad StandsBelow to ids.now.keys levels.now) }
-{
-    let runs = part_levels(alloc, ids, levels)?;
-    let order = any_wrong(Fault::OutOfOrder, to, &runs);
-    let eviction = any_wrong(Fault::StandsBelow, to, &runs);
-    Ok(Faults { order, eviction })
-}
-
-fn find_faults_unless_drop(
     alloc: Global,
     kind: Kind,
     ids: &HashSet<TableId>,
@@ -190,13 +162,15 @@ fn find_faults_unless_drop(
     ensures eviction { IfOk result (λ f. f.eviction ≡ (not (is_drop kind) && any_bad StandsBelow to ids.now.keys levels.now)) }
 {
     if kind_is_drop(kind) {
-        Ok(Faults {
+        return Ok(Faults {
             order: false,
             eviction: false,
-        })
-    } else {
-        find_faults(alloc, ids, to, levels)
+        });
     }
+    let runs = part_levels(alloc, ids, levels)?;
+    let order = any_wrong(Fault::OutOfOrder, to, &runs);
+    let eviction = any_wrong(Fault::StandsBelow, to, &runs);
+    Ok(Faults { order, eviction })
 }
 
 /// The first reason to decline a choice of tables.
@@ -223,7 +197,7 @@ pub fn first_reason(
 {
     version.facts();
     let levels = version.levels();
-    let faults = find_faults_unless_drop(alloc, kind, ids, to, levels)?;
+    let faults = find_faults(alloc, kind, ids, to, levels)?;
     let first = first_that_holds(&[
         (hidden.should_decline_compaction(ids), Why::Hidden),
         (any_missing(alloc, ids, levels)?, Why::Missing),
@@ -249,7 +223,7 @@ fn reason_at_end(
     ensures { IfOk result (EndsAs inputs.now ids.now.keys to version.now.levels) }
 {
     version.facts();
-    let faults = find_faults(alloc, ids, to, version.levels())?;
+    let faults = find_faults(alloc, Kind::Merge, ids, to, version.levels())?;
     let no_such_level = to >= DEFAULT_LEVEL_COUNT as usize;
     let first = first_that_holds(&[
         (!stands, Why::Stale),
