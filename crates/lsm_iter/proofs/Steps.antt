@@ -1,15 +1,16 @@
 -- A step of one cursor, and of the one with the outermost key.
-use Rattle.std.proofs.Common.{◌≡◌, ◌≢◌, ℕ, ◌<◌, ◌≤◌, true, cond, Option, None, Some, Result, Ok, Err, OnErr, List, [], ◌∷◌, MatchOption, option_to_list, filter, get_or, set, length, refl, sym, ap, ◌∙◌, subst, arith}
+use Rattle.std.proofs.Common.{◌≡◌, ◌≢◌, ℕ, ◌<◌, ◌≤◌, true, cond, Option, None, Some, Result, Ok, Err, OnErr, List, [], ◌∷◌, MatchOption, option_to_list, filter, get_or, set, map, length, refl, sym, ap, ◌∙◌, subst, arith}
 use Rattle.std.proofs.lemmas.List.{get_or_default}
 use Rattle.lsm_below.specs.Entries.{Entry, is_value}
 use Rattle.lsm_below.specs.Sorted.{Rises}
 use Rattle.lsm_iter.specs.Shown.{by_key}
 use Rattle.lsm_iter.specs.Ends.{IsTaken}
 use Rattle.lsm_iter.specs.Left.{SeenCursor, left_of, held_in, shown_list, end_item, Takes, TakesValue}
-use Rattle.lsm_iter.specs.Outermost.{IsAlone}
+use Rattle.lsm_iter.specs.Outermost.{IsAlone, IsOutermost, ShowSame}
 use Rattle.lsm_iter.specs.declared.tree_iter.End.{End}
-use Rattle.lsm_iter.proofs.Shows.{with_end, end_some}
-use Rattle.lsm_iter.proofs.Alone.{item_taken, outermost_taken, fewer, owns_less}
+use Rattle.lsm_iter.proofs.Shows.{with_end, end_taken, end_kept, end_some}
+use Rattle.lsm_iter.proofs.Alone.{item_taken, outermost_taken, fewer, owns_less, nothing_left}
+use Rattle.lsm_iter.proofs.Compared.{seen_alone, seen_same}
 
 pub on_err : {A E : Type 0} (r : Result A E) (P : Type 0) → P → OnErr r P
 on_err (Ok a) P p = tt
@@ -45,14 +46,14 @@ module _ (end : End) (cs : List SeenCursor) (at : ℕ) (h : IsAlone end cs (leng
       outermost_taken end cs at h.item new h.before taken (λ d. subst (λ c. Rises by_key c.left) (get_or_default cs at cursor d h.before) rises) h.others
       ∙ ap (λ l. with_end end l (shown_list (left_of (set cs at new)))) (sym both.1)
 
-  pub step_fewer : length (left_of (set cs at new)) < length (left_of cs)
+  step_fewer : length (left_of (set cs at new)) < length (left_of cs)
   step_fewer = let less = fewer end cs at h.item new h.before taken in omega arith
 
-  pub step_owns : held_in (set cs at new) ≤ held_in cs
+  step_owns : held_in (set cs at new) ≤ held_in cs
   step_owns = owns_less end cs at h.item new h.before taken cursor le
 
 -- a value at the end of the outermost one is shown
-pub value_shown : (end : End) (cs : List SeenCursor) (at : ℕ) (h : IsAlone end cs (length cs) at) (cursor : SeenCursor) (e : Entry) → Rises by_key (get_or cs at cursor).left → end_item end (get_or cs at cursor).left ≡ Some e → is_value e ≡ true → shown_list (left_of cs) ≢ []
+value_shown : (end : End) (cs : List SeenCursor) (at : ℕ) (h : IsAlone end cs (length cs) at) (cursor : SeenCursor) (e : Entry) → Rises by_key (get_or cs at cursor).left → end_item end (get_or cs at cursor).left ≡ Some e → is_value e ≡ true → shown_list (left_of cs) ≢ []
 value_shown end cs at h cursor e rises item value none =
     let taken = item_taken end (get_or cs at cursor).left e item in
     let new : SeenCursor = record { left = taken.0; held = 0 } in
@@ -65,3 +66,43 @@ value_shown end cs at h cursor e rises item value none =
   where
     one_some : (x y : Entry) → Some x ≡ Some y → x ≡ y
     one_some x y h = cc h
+
+-- ---- a turn of the loop that takes what readers show
+
+-- one of the readers lost its entry: where that is a value, it is taken of what they show, else they show the same
+pub record IsTurn (end : End) (was now : List SeenCursor) (v : Option Entry) : Type 0 where
+  pub taken : (e : Entry) → v ≡ Some e → IsTaken end (shown_list (left_of was)) e (shown_list (left_of now))
+  pub kept : v ≡ None → shown_list (left_of was) ≡ shown_list (left_of now)
+  pub fewer : length (left_of now) < length (left_of was)
+  pub held : held_in now ≤ held_in was
+
+-- readers that show what they did, and the place of the one with the outermost key
+module _ (end : End) (was cs : List SeenCursor) (o : Option ℕ) (same : ShowSame (map (λ c. c) was) (map (λ c. c) cs)) (outer : IsOutermost end (map (λ c. c) cs) (length cs) o) where
+  before : ShowSame was cs
+  before = seen_same was cs same
+
+  pub none_shown : o ≡ None → (shown_list (left_of was) ≡ []) × (shown_list (left_of cs) ≡ [])
+  none_shown is =
+      let gone : shown_list (left_of cs) ≡ [] = ap shown_list (nothing_left cs (subst (IsOutermost end cs (length cs)) is (seen_alone end cs o outer))) in
+      (sym before.shown ∙ gone, gone)
+
+  module _ (at : ℕ) (is : o ≡ Some at) (cursor : SeenCursor) (rises : Rises by_key (get_or cs at cursor).left) where
+    alone : IsAlone end cs (length cs) at
+    alone = subst (IsOutermost end cs (length cs)) is (seen_alone end cs o outer)
+
+    pub some_shown : (e : Entry) → end_item end (get_or cs at cursor).left ≡ Some e → is_value e ≡ true → shown_list (left_of was) ≢ []
+    some_shown e item value = λ none. value_shown end cs at alone cursor e rises item value (before.shown ∙ none)
+
+    pub turn : (new : SeenCursor) (v : Option Entry) → TakesValue end (get_or cs at cursor).left v new.left → new.held ≤ (get_or cs at cursor).held → IsTurn end was (set cs at new) v
+    turn new v takes held = record {
+      taken = λ e one. end_taken end (shown_list (left_of was)) (option_to_list v) now e shown (ap option_to_list (sym one));
+      kept = λ none. end_kept end (shown_list (left_of was)) (option_to_list v) now shown (ap option_to_list (sym none));
+      fewer = let left = before.left in let less = step_fewer end cs at alone new v cursor takes rises held in omega arith;
+      held = let owned = before.held in let owns = step_owns end cs at alone new v cursor takes rises held in omega arith;
+    }
+      where
+        now : List Entry
+        now = shown_list (left_of (set cs at new))
+
+        shown : shown_list (left_of was) ≡ with_end end (option_to_list v) now
+        shown = sym before.shown ∙ step end cs at alone new v cursor takes rises held
