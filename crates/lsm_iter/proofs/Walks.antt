@@ -10,10 +10,10 @@ use Rattle.lsm_below.specs.Slots.{same_key, firsts}
 use Rattle.lsm_iter.specs.Reads.{at}
 use Rattle.lsm_iter.specs.Left.{tops, end_item, last_item, Takes}
 use Rattle.lsm_iter.specs.Cursors.{repeats, firsts_after}
-use Rattle.lsm_iter.specs.Trims.{IsTrimmed, Trims, counts, hides}
+use Rattle.lsm_iter.specs.Trims.{IsTrimmed, RisesTrimmed, Trims, counts, hides}
 use Rattle.lsm_iter.specs.declared.tree_iter.End.TheVariants.{Front, Back}
 use Rattle.lsm_iter.proofs.Tops.{apart_before, before_last, filter_yes, filter_no, first_counts, last_is, tops_repeat, tops_hidden, tops_ends, tops_last, trimmed_front, trimmed_back}
-use Rattle.lsm_iter.proofs.Rises.{rises_left}
+use Rattle.lsm_iter.proofs.Rises.{rises_left, rises_right}
 use Rattle.lsm_iter.proofs.Trims.{takes_front, takes_back}
 
 -- ---- from the front
@@ -87,22 +87,28 @@ dropped_more all rest front gone e is next = is ∙ ap (λ l. l ++ gone) next �
 -- ---- steps
 
 -- without the first entry's key, and what doesn't count after it
-pub past_first : (s : ℕ) (es behind front rest : List Entry) (e : Entry) → es ≡ e ∷ behind → behind ≡ front ++ rest → IsTrimmed s es → tops (at s rest) ≡ firsts_after (Some e) (filter (counts s) behind) → end_item Front (tops (at s rest)) ≡ end_item Front rest
-    → Takes Front (tops (at s es)) (end_item Front (tops (at s es))) (tops (at s rest)) × IsTrimmed s rest
-past_first s es behind front rest e is passed trimmed same ends =
-    let counted : counts s e ≡ true = first_counts s es e (trimmed Front ∙ ap (end_item Front) is) in
+pub past_first : (s : ℕ) (es behind front rest : List Entry) (e : Entry) → es ≡ e ∷ behind → behind ≡ front ++ rest → RisesTrimmed s es → tops (at s rest) ≡ firsts_after (Some e) (filter (counts s) behind) → end_item Front (tops (at s rest)) ≡ end_item Front rest
+    → Takes Front (tops (at s es)) (end_item Front (tops (at s es))) (tops (at s rest)) × RisesTrimmed s rest
+past_first s es behind front rest e is passed was same ends =
+    let counted : counts s e ≡ true = first_counts s es e (was.trimmed Front ∙ ap (end_item Front) is) in
     let taken : tops (at s es) ≡ e ∷ tops (at s rest) = ap (λ l. tops (at s l)) is ∙ ap firsts (filter_yes s e behind counted) ∙ ap (λ l. e ∷ l) (sym same) in (
       takes_front (tops (at s es)) (tops (at s rest)) e taken,
-      trimmed_front s es (e ∷ front) rest (e ∷ []) (is ∙ ap (λ l. e ∷ l) passed) taken trimmed ends,
+      record {
+        rises = rises_right entry_cmp front rest (subst (Rises entry_cmp) passed (subst (Rises entry_cmp) is was.rises).1);
+        trimmed = trimmed_front s es (e ∷ front) rest (e ∷ []) (is ∙ ap (λ l. e ∷ l) passed) taken was.trimmed ends;
+      },
     )
 
 -- without the last entry, and what isn't left then
-pub past_last : (s : ℕ) (es front rest back : List Entry) (x : Entry) → es ≡ front ++ x ∷ [] → front ≡ rest ++ back → Rises entry_cmp es → IsTrimmed s es → Trims Back s front rest
-    → Takes Back (tops (at s es)) (end_item Back (tops (at s es))) (tops (at s rest)) × IsTrimmed s rest
-past_last s es front rest back x is passed rises trimmed trims =
-    let taken : tops (at s es) ≡ tops (at s rest) ++ x ∷ [] = tops_last s es front x is rises trimmed ∙ ap (λ l. l ++ x ∷ []) (sym trims.same) in (
+pub past_last : (s : ℕ) (es front rest back : List Entry) (x : Entry) → es ≡ front ++ x ∷ [] → front ≡ rest ++ back → RisesTrimmed s es → Trims Back s front rest
+    → Takes Back (tops (at s es)) (end_item Back (tops (at s es))) (tops (at s rest)) × RisesTrimmed s rest
+past_last s es front rest back x is passed was trims =
+    let taken : tops (at s es) ≡ tops (at s rest) ++ x ∷ [] = tops_last s es front x is was.rises was.trimmed ∙ ap (λ l. l ++ x ∷ []) (sym trims.same) in (
       takes_back (tops (at s es)) (tops (at s rest)) x taken,
-      trimmed_back s es (back ++ x ∷ []) rest (x ∷ []) (is ∙ ap (λ l. l ++ x ∷ []) passed ∙ append_assoc rest back (x ∷ [])) taken (trimmed Front) trims.ends,
+      record {
+        rises = rises_left entry_cmp rest back (subst (Rises entry_cmp) passed (rises_left entry_cmp front (x ∷ []) (subst (Rises entry_cmp) is was.rises)));
+        trimmed = trimmed_back s es (back ++ x ∷ []) rest (x ∷ []) (is ∙ ap (λ l. l ++ x ∷ []) passed ∙ append_assoc rest back (x ∷ [])) taken (was.trimmed Front) trims.ends;
+      },
     )
 
 -- both ends trimmed, one after the other

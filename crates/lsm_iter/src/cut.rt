@@ -27,17 +27,16 @@ pub(crate) struct Cut<'a> {
 
 impl<'a> Model for Cut<'a> {
     ghost use Rattle.std.specs.Prelude.{List};
-    ghost use Rattle.lsm_below.specs.Entries.{Entry, entry_cmp};
-    ghost use Rattle.lsm_below.specs.Sorted.{Rises};
+    ghost use Rattle.lsm_below.specs.Entries.{Entry};
     ghost use Rattle.lsm_iter.specs.Reads.{at};
     ghost use Rattle.lsm_iter.specs.Left.{tops};
-    ghost use Rattle.lsm_iter.specs.Trims.{IsTrimmed};
+    ghost use Rattle.lsm_iter.specs.Trims.{RisesTrimmed};
 
     ghost Value = { List Entry };
 
     ghost view = { λ c. tops (at c.below c.rest.now) };
 
-    ghost invariant = { λ c. Rises entry_cmp c.rest.now × IsTrimmed c.below c.rest.now };
+    ghost invariant = { λ c. RisesTrimmed c.below c.rest.now };
 }
 
 impl<'a> Cut<'a> {

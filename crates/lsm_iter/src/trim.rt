@@ -1,14 +1,13 @@
 // The entries of a table between two places, at both of which one stands that counts.
-ghost use Rattle.std.specs.Prelude.{◌≡◌, ◌-◌, ◌+◌, ◌<◌, ◌≤◌, true, ◌&&◌, length, take, drop, ◌∷◌, List, filter, slice_index_or, slice_range, option_copied, IfOk};
+ghost use Rattle.std.specs.Prelude.{◌≡◌, ◌-◌, ◌+◌, ◌<◌, ◌≤◌, true, ◌&&◌, length, take, drop, filter, slice_index_or, slice_range, option_copied, IfOk};
 ghost use Rattle.std.specs.List.{All};
 ghost use Rattle.lsm_below.specs.Entries.{Entry, entry_cmp, HasBytes};
-ghost use Rattle.lsm_below.specs.Runs.{IsCut};
 ghost use Rattle.lsm_below.specs.Slots.{same_key};
 ghost use Rattle.lsm_below.specs.Sorted.{Rises};
 ghost use Rattle.lsm_iter.specs.Reads.{at};
 ghost use Rattle.lsm_iter.specs.Shown.{by_key};
 ghost use Rattle.lsm_iter.specs.Left.{tops, end_item, copied, Takes};
-ghost use Rattle.lsm_iter.specs.Trims.{IsTrimmed, Trims, counts};
+ghost use Rattle.lsm_iter.specs.Trims.{IsTrimmed, Trims, IsGroup, counts};
 ghost use Rattle.lsm_iter.specs.declared.tree_iter.End.TheVariants.{Front, Back};
 
 use crate::End;
@@ -27,9 +26,7 @@ const NEAR: usize = 8;
 fn far_group_len(entries: &[InternalValue]) -> usize
     requires some { 0 < length entries.now }
     requires rises { Rises entry_cmp entries.now }
-    ensures some { 0 < result }
-    ensures inside { result ≤ length entries.now }
-    ensures group { (e : Entry) (rest : List Entry) → entries.now ≡ e ∷ rest → IsCut (same_key e) entries.now result }
+    ensures { IsGroup entries.now result }
 {
     entries_are_ordered();
     let first = &entries[0];
@@ -41,9 +38,7 @@ fn far_group_len(entries: &[InternalValue]) -> usize
 fn group_len(entries: &[InternalValue]) -> usize
     requires some { 0 < length entries.now }
     requires rises { Rises entry_cmp entries.now }
-    ensures some { 0 < result }
-    ensures inside { result ≤ length entries.now }
-    ensures group { (e : Entry) (rest : List Entry) → entries.now ≡ e ∷ rest → IsCut (same_key e) entries.now result }
+    ensures { IsGroup entries.now result }
 {
     entries_are_ordered();
     let mut len = 1;
@@ -93,19 +88,6 @@ fn counts_with(entry: &InternalValue, other: &InternalValue, below: SeqNo) -> bo
     entry.key.seqno < below && has_same_key(entry, other)
 }
 
-/// Of entries of which the last one counts, the place of the newest one of its key that does, by binary search.
-fn far_newest_place(entries: &[InternalValue], below: SeqNo) -> usize
-    requires some { 0 < length entries.now }
-    requires rises { Rises entry_cmp entries.now }
-    requires last { (d : Entry) → counts below (slice_index_or entries.now (length entries.now - 1) d) ≡ true }
-    ensures inside { result < length entries.now }
-    ensures trims { Trims Back below entries.now (take (result + 1) entries.now) }
-{
-    entries_are_ordered();
-    let last = &entries[entries.len() - 1];
-    entries.partition_point(|entry| !counts_with(entry, last, below))
-}
-
 /// Of entries of which the last one counts, the place of the newest one of its key that does.
 fn newest_place(entries: &[InternalValue], below: SeqNo) -> usize
     requires some { 0 < length entries.now }
@@ -118,7 +100,8 @@ fn newest_place(entries: &[InternalValue], below: SeqNo) -> usize
     let mut place = entries.len() - 1;
     while place > 0 && counts_with(&entries[place - 1], &entries[place], below) {
         if entries.len() - place == NEAR {
-            return far_newest_place(entries, below);
+            let last = &entries[entries.len() - 1];
+            return entries.partition_point(|entry| !counts_with(entry, last, below));
         }
         place -= 1;
     }

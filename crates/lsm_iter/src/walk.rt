@@ -6,7 +6,7 @@ ghost use Rattle.lsm_iter.specs.Reads.{at};
 ghost use Rattle.lsm_iter.specs.Shown.{by_key};
 ghost use Rattle.lsm_iter.specs.Left.{tops, end_item, Takes};
 ghost use Rattle.lsm_iter.specs.Cursors.{repeats, firsts_after};
-ghost use Rattle.lsm_iter.specs.Trims.{IsTrimmed, Trims, counts, hides};
+ghost use Rattle.lsm_iter.specs.Trims.{Trims, counts, hides};
 ghost use Rattle.lsm_iter.specs.declared.tree_iter.End.TheVariants.{Front, Back};
 
 use crate::End;
@@ -95,37 +95,6 @@ fn pass_back(rest: &mut Iter<'_>, below: SeqNo)
     }
 }
 
-/// Leaves out the first entry, those of its key, and what doesn't count after it.
-#[inline(always)]
-fn skip_front(rest: &mut Iter<'_>, below: SeqNo)
-    requires rises { Rises entry_cmp rest.old }
-    requires trimmed { IsTrimmed below rest.old }
-    ensures takes { Takes Front (tops (at below rest.old)) (end_item Front (tops (at below rest.old))) (tops (at below rest.new)) }
-    ensures rises { Rises entry_cmp rest.new }
-    ensures trimmed { IsTrimmed below rest.new }
-{
-    let Some(first) = rest.first_headed() else {
-        return;
-    };
-    rest.drop_first();
-    settle_front(rest, Some(&first), below);
-}
-
-/// Leaves out the last entry, and what isn't left before it.
-fn skip_back(rest: &mut Iter<'_>, below: SeqNo)
-    requires rises { Rises entry_cmp rest.old }
-    requires trimmed { IsTrimmed below rest.old }
-    ensures takes { Takes Back (tops (at below rest.old)) (end_item Back (tops (at below rest.old))) (tops (at below rest.new)) }
-    ensures rises { Rises entry_cmp rest.new }
-    ensures trimmed { IsTrimmed below rest.new }
-{
-    let Some(_last) = rest.last_headed() else {
-        return;
-    };
-    rest.drop_last();
-    pass_back(rest, below);
-}
-
 /// The entry without its head.
 #[inline(always)]
 fn entry_of(headed: Option<Headed<'_>>) -> Option<&InternalValue>
@@ -145,17 +114,16 @@ pub(crate) struct Walk<'a> {
 
 impl<'a> Model for Walk<'a> {
     ghost use Rattle.std.specs.Prelude.{List};
-    ghost use Rattle.lsm_below.specs.Entries.{Entry, entry_cmp};
-    ghost use Rattle.lsm_below.specs.Sorted.{Rises};
+    ghost use Rattle.lsm_below.specs.Entries.{Entry};
     ghost use Rattle.lsm_iter.specs.Reads.{at};
     ghost use Rattle.lsm_iter.specs.Left.{tops};
-    ghost use Rattle.lsm_iter.specs.Trims.{IsTrimmed};
+    ghost use Rattle.lsm_iter.specs.Trims.{RisesTrimmed};
 
     ghost Value = { List Entry };
 
     ghost view = { λ w. tops (at w.below w.rest) };
 
-    ghost invariant = { λ w. Rises entry_cmp w.rest × IsTrimmed w.below w.rest };
+    ghost invariant = { λ w. RisesTrimmed w.below w.rest };
 }
 
 impl<'a> Walk<'a> {
@@ -188,14 +156,37 @@ impl<'a> Walk<'a> {
         let _ = &self.rest;
     }
 
+    /// Takes the first entry off: leaves it out, those of its key, and what doesn't count after it.
+    #[inline(always)]
+    fn skip_front(&mut self)
+        ensures { Takes Front self.old (end_item Front self.old) self.new }
+    {
+        let Some(first) = self.rest.first_headed() else {
+            return;
+        };
+        self.rest.drop_first();
+        settle_front(&mut self.rest, Some(&first), self.below);
+    }
+
+    /// Takes the last entry off: leaves it out, and what isn't left before it.
+    fn skip_back(&mut self)
+        ensures { Takes Back self.old (end_item Back self.old) self.new }
+    {
+        let Some(_last) = self.rest.last_headed() else {
+            return;
+        };
+        self.rest.drop_last();
+        pass_back(&mut self.rest, self.below);
+    }
+
     /// Takes the entry at this end off.
     #[inline(always)]
     pub(crate) fn skip(&mut self, end: End)
         ensures { Takes end self.old (end_item end self.old) self.new }
     {
         match end {
-            End::Front => skip_front(&mut self.rest, self.below),
-            End::Back => skip_back(&mut self.rest, self.below),
+            End::Front => self.skip_front(),
+            End::Back => self.skip_back(),
         }
     }
 

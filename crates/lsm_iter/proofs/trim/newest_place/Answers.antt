@@ -1,6 +1,7 @@
-use Rattle.std.proofs.Common.{◌-◌, ◌∙◌, ap, sym, arith}
+use Rattle.std.proofs.Common.{rules, tests, ◌≡◌, ◌+◌, ◌-◌, length, true, ◌∙◌, ap, sym, arith}
+use Rattle.std.proofs.lemmas.List.Sorted.{IsPartitionPoint-from_clause}
 use Rattle.lsm_iter.specs.Trims.{counts}
-use Rattle.lsm_iter.proofs.Trims.{place_step, place_end, place_first}
+use Rattle.lsm_iter.proofs.Trims.{goes_before, place_step, place_end, place_first, place_parted, place_inside, place_found}
 use Rattle.lsm_iter.proofs.trim.newest_place.Goals as goal
 
 pub loop-place-preserved : goal.loop-place-preserved
@@ -20,3 +21,20 @@ returns-else-counts_with-clause-trims c =
 
 pub returns-after-loop-place-clause-trims : goal.returns-after-loop-place-clause-trims
 returns-after-loop-place-clause-trims c = place_first c.args.below c.args.entries.now c.loop-place.place c.loop-place-test.false c.loop-place.invariant.inside c.loop-place.invariant.counted c.loop-place.invariant.same
+
+pub returns-then-entries-place-eq-NEAR : goal.returns-then-entries-place-eq-NEAR
+returns-then-entries-place-eq-NEAR c =
+    let es = c.args.entries.now in
+    let s = c.args.below in
+    let x = c.index-entries-entries.result in
+    let n = length es - 1 in
+    let p = c.partition_point.result in
+    let one : n + 1 ≡ length es = omega arith in
+    let counted : counts s x ≡ true = ap (counts s) c.index-entries-entries.is ∙ c.requires.last x in
+    let parted =
+    IsPartitionPoint-from_clause (goes_before s es x) es p c.partition_point.ensures.partitioned (place_parted s es x c.entries_are_ordered.ensures n one c.requires.rises c.index-entries-entries.is counted) (λ a r f called. search (rules, tests)) in
+    let inside = place_inside s es x n p one c.partition_point.ensures.bound c.index-entries-entries.is counted parted in
+    record {
+      inside = inside;
+      trims = place_found s es x p inside parted;
+    }

@@ -9,10 +9,10 @@ use Rattle.lsm_iter.proofs.Rises.{rises_range}
 use Rattle.lsm_iter.proofs.cut.Cut.new.Goals as goal
 
 pub invariant_of-result : goal.invariant_of-result
-invariant_of-result c = (
-  rises_range entry_cmp c.entries.result.now c.places_left-low.result.0 c.places_left-low.result.1 (subst (Rises entry_cmp) (sym c.entries.ensures) c.facts.ensures.table.rises),
-  subst (λ (l : List Entry). IsTrimmed c.args.below (slice_range l c.places_left-low.result.0 c.places_left-low.result.1)) (sym c.entries.ensures) c.places_left-low.ensures.trimmed,
-)
+invariant_of-result c = record {
+  rises = rises_range entry_cmp c.entries.result.now c.places_left-low.result.0 c.places_left-low.result.1 (subst (Rises entry_cmp) (sym c.entries.ensures) c.facts.ensures.table.rises);
+  trimmed = subst (λ (l : List Entry). IsTrimmed c.args.below (slice_range l c.places_left-low.result.0 c.places_left-low.result.1)) (sym c.entries.ensures) c.places_left-low.ensures.trimmed;
+}
 
 pub returns-clause-is : goal.returns-clause-is
 returns-clause-is c = ap (λ (l : List Entry). tops (at c.args.below (slice_range l c.places_left-low.result.0 c.places_left-low.result.1))) c.entries.ensures ∙ c.places_left-low.ensures.is

@@ -5,4 +5,4 @@ use Rattle.lsm_iter.proofs.Tops.{rises_tops}
 use Rattle.lsm_iter.proofs.walk.Walk.facts.Goals as goal
 
 pub returns : goal.returns
-returns c = subst (Rises by_key) c.self.view_is (rises_tops c.self.inside.below c.self.inside.rest c.self.invariant.0)
+returns c = subst (Rises by_key) c.self.view_is (rises_tops c.self.inside.below c.self.inside.rest c.self.invariant.rises)

@@ -13,7 +13,8 @@ pass_back-requires c =
 pub invariant_of-result : goal.invariant_of-result
 invariant_of-result c =
     let front = c.pass_front.ensures.passed in
-    let gone = c.pass_back.ensures.passed in (
-      rises_left entry_cmp c.pass_back.new.rest gone.0 (subst (Rises entry_cmp) gone.1 (rises_right entry_cmp front.0 c.pass_front.new.rest (subst (Rises entry_cmp) front.1 c.requires))),
-      (both_trimmed c.args.below c.args.entries c.pass_front.new.rest c.pass_back.new.rest gone.0 c.pass_front.ensures.same c.pass_front.ensures.ends gone.1 c.pass_back.ensures.trims).1,
-    )
+    let gone = c.pass_back.ensures.passed in
+    record {
+      rises = rises_left entry_cmp c.pass_back.new.rest gone.0 (subst (Rises entry_cmp) gone.1 (rises_right entry_cmp front.0 c.pass_front.new.rest (subst (Rises entry_cmp) front.1 c.requires)));
+      trimmed = (both_trimmed c.args.below c.args.entries c.pass_front.new.rest c.pass_back.new.rest gone.0 c.pass_front.ensures.same c.pass_front.ensures.ends gone.1 c.pass_back.ensures.trims).1;
+    }

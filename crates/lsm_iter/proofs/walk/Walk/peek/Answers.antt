@@ -7,4 +7,4 @@ use Rattle.lsm_iter.proofs.walk.Walk.peek.Goals as goal
 pub returns-in-Back : goal.returns-in-Back
 returns-in-Back c =
     c.entry_of-in-Back.ensures ∙ back_is c.self.inside.rest c.last_headed.result c.last_headed.ensures
-    ∙ sym (c.self.invariant.1 Back) ∙ ap (end_item Back) c.self.view_is ∙ sym (ap (λ end. end_item end c.args.self.now) c.in-Back.is)
+    ∙ sym (c.self.invariant.trimmed Back) ∙ ap (end_item Back) c.self.view_is ∙ sym (ap (λ end. end_item end c.args.self.now) c.in-Back.is)
