@@ -3,7 +3,6 @@ ghost use Rattle.std.specs.Prelude.{◌≡◌, ◌+◌, ◌-◌, ◌<◌, ◌≤
 ghost use Rattle.std.specs.List.{All};
 ghost use Rattle.std.specs.Iterator.{at_most};
 ghost use Rattle.lsm_memtable.specs.Blocks.{joined, spot, IsFilled, HasPlace};
-ghost use Rattle.lsm_memtable.specs.Parts.{blocks_of};
 ghost use Rattle.lsm_memtable.specs.Iters.{TakesFirst, TakesLast};
 
 use crate::block::Block;
