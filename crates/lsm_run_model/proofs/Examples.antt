@@ -3,12 +3,11 @@ use Rattle.std.proofs.Common.{◌≡◌, ◌⊎◌, ⊎_elim, ℕ, zero, suc, �
 use Rattle.std.specs.FinMap.{get, empty, entries, find, get-empty, get-entries}
 use Rattle.std.specs.declared.ops.Bound.TheVariants.{Unbounded}
 use Rattle.lsm_below.specs.Keys.{Bytes, is_same, bytes_cmp}
-use Rattle.lsm_below.specs.Entries.{Entry, stack, entry_at, value_of, IsFalling, IsSingle}
-use Rattle.lsm_below.specs.declared.value_type.ValueType.TheVariants.{Value}
+use Rattle.lsm_below.specs.Entries.{stack, value_of, IsFalling, IsSingle}
 use Rattle.lsm_below.specs.Members.{IsIn}
 use Rattle.lsm_store.specs.World.{Image, World, LeavesOnly}
 use Rattle.lsm_model.specs.Journal.{Event, Map, changed}
-use Rattle.lsm_model.specs.Views.{Memtables, Placed, held, written, emptied}
+use Rattle.lsm_model.specs.Views.{Placed, held}
 use Rattle.lsm_model.specs.Steps.{Wrote, Rotated, Flushed as Flushing, Cleared as Clearing}
 use Rattle.lsm_model.specs.Soundness.{Soundness}
 use Rattle.lsm_model.specs.Laws.{MapsAreRead}
@@ -16,7 +15,7 @@ use Rattle.lsm_model.specs.Beginnings.{Note, SealedAt, FlushedIds, ClearLost, co
 use Rattle.lsm_model.specs.declared.journal.JournalEntry.TheVariants.{Write, Clear, Install, Dropped, Read}
 use Rattle.lsm_model.specs.declared.question.Question.TheVariants.{Get, Between}
 use Rattle.lsm_model.specs.declared.question.Answer.TheVariants.{Found, Pairs}
-use Rattle.lsm_model.proofs.Examples.{kept_one, state, sv}
+use Rattle.lsm_model.proofs.Examples.{key, set0, table, sv, state, m0, kept_one}
 use Rattle.lsm_model.proofs.CrashExamples.{saved, a3, a2, a1, cleared}
 use Rattle.lsm_model.proofs.Crashes.{no_tables_stand}
 use Rattle.lsm_run_model.specs.Outcomes.{Told, nothing}
@@ -29,25 +28,10 @@ use Rattle.lsm_run_model.specs.Repeating.{ReadsShareAMap}
 use Rattle.lsm_run_model.proofs.Composing.{runs_compose}
 use Rattle.lsm_run_model.proofs.Lives.{any_number}
 
--- ---- keys, tables and trees
-
-abbrev key : Bytes
-key = 1 ∷ []
-
-abbrev pub set0 : Entry
-set0 = entry_at key 0 Value (7 ∷ [])
+-- ---- tables and trees
 
 abbrev one : List Placed
-one = record { level = 0; table = record { id = 0; range = record { min = key; max = key }; entries = set0 ∷ [] } } ∷ []
-
-abbrev m0 : Memtables
-m0 = λ i. []
-
-abbrev m1 : Memtables
-m1 = written m0 0 set0
-
-abbrev m2 : Memtables
-m2 = emptied m1 1
+one = table 0 set0 ∷ []
 
 abbrev a0 : Saved
 a0 = saved (state [] m0 (sv 0 0 [] []) []) [] []

@@ -6,13 +6,14 @@ use Rattle.lsm_below.specs.Members.{IsIn}
 use Rattle.lsm_store.specs.World.{Image, Row, Outcomes, World, Anything, Only, OldOr, IsImage, At, Becomes, LeavesOnly}
 use Rattle.lsm_model.specs.Journal.{Map, changed}
 use Rattle.lsm_model.specs.declared.journal.JournalEntry.TheVariants.{Write, Install}
+use Rattle.lsm_model.proofs.Examples.{set0}
 use Rattle.lsm_run_model.specs.Outcomes.{Past, nothing, after_all}
 use Rattle.lsm_run_model.specs.Moments.{HoldsBeginning, EachMoment}
 use Rattle.lsm_run_model.specs.Lives.{End, Crashed, Killed, GivesOne, ShowsOld, OneLife, LifeAfterLife, Opening, Running, Reads, AllGoWell}
 use Rattle.lsm_run_model.specs.Settling.{TellsMoments, LooksAt, IsPut, IsCleared, Settled}
 use Rattle.lsm_run_model.proofs.Lives.{any_number}
 use Rattle.lsm_run_model.proofs.Settling.{settling, breaks}
-use Rattle.lsm_run_model.proofs.Examples.{set0, told, AllKnown}
+use Rattle.lsm_run_model.proofs.Examples.{told, AllKnown}
 
 -- ---- names: `current`, the file of the old version, and others, of which one is the new version's
 
