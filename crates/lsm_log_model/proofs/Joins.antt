@@ -11,13 +11,13 @@ use Rattle.lsm_model.specs.Laws.{MapsAreRead, PartsAreWhole, TablesArePlaced}
 use Rattle.lsm_model.specs.Beginnings.{Saved, Deed, Done, Lost, Deeds, is_commit, told_lost}
 use Rattle.lsm_model.specs.declared.journal.JournalEntry.TheVariants.{Write}
 use Rattle.lsm_model.proofs.Above.{above_each}
+use Rattle.lsm_model.proofs.Journals.{next_of-le}
 use Rattle.lsm_log_model.specs.Records.{Batch, entries_of, LogImage, logged, opened_by}
 use Rattle.lsm_log_model.specs.Logs.{Logged, MayBeDrawn, is_write, next_from, did, doubted, Act, Batched, BatchLost, Did, CommitLost, Acts, AllActs, MayLeave, MayBeLeft}
 use Rattle.lsm_log_model.specs.Joins.{ActsJoin, DrawsBelow, CounterStaysAbove, act_of, lifted, Lifts, DeedsAreActs}
 use Rattle.lsm_log_model.proofs.Stacks.{above-append}
 use Rattle.lsm_log_model.proofs.Batches.{each_entry, since_each}
 use Rattle.lsm_log_model.proofs.Orders.{number_writes}
-use Rattle.lsm_log_model.proofs.High.{next_of-le}
 use Rattle.lsm_log_model.proofs.Writes.{run_journal, deeds_run}
 use Rattle.lsm_log_model.proofs.Following.{mems_below}
 use Rattle.lsm_log_model.proofs.Growth.{tells, act_grown}

@@ -16,11 +16,11 @@ use Rattle.lsm_model.specs.Soundness.{Soundness}
 use Rattle.lsm_model.specs.Laws.{MapsAreRead, PartsAreWhole, TablesArePlaced}
 use Rattle.lsm_model.specs.Beginnings.{beginning, is_spared, spared_after, Note, ClearLost, Lost, is_commit, noted_lost, told_lost, covered, noted_by}
 use Rattle.lsm_model.specs.declared.journal.JournalEntry.TheVariants.{Write, Clear, Install, Dropped}
+use Rattle.lsm_model.proofs.Journals.{next_of-le}
 use Rattle.lsm_log_model.specs.Records.{Batch, entries_of, HasDistinctKeys, since, LogImage, LogStands, counted, logged, IsRising}
 use Rattle.lsm_log_model.specs.Logs.{Logged, LostBatch, IsCertain, secured, MayBeDrawn, is_write, next_from, Act, Batched, BatchLost, Did, CommitLost, IsBatched, IsBatchLost, IsDid, IsCommitLost, Acts, HasVersion, HasRecords, MayLeave, lost_of, LogIsSound}
 use Rattle.lsm_log_model.specs.Recovery.{IsLogFront, LogRecovers}
 use Rattle.lsm_log_model.proofs.Batches.{since_all}
-use Rattle.lsm_log_model.proofs.High.{next_of-le}
 use Rattle.lsm_log_model.proofs.Orders.{order_join}
 use Rattle.lsm_log_model.proofs.Writes.{Filled, filled, deeds_run}
 use Rattle.lsm_log_model.proofs.Following.{Follows, step_follows, batch_follows, batch_falls_above, mems_below}

@@ -12,7 +12,7 @@ use Rattle.lsm_model.specs.Views.{EachPair}
 use Rattle.lsm_model.specs.declared.op.Op.{Op}
 use Rattle.lsm_model.specs.declared.op.Op.TheVariants.{Set, Del, Weak}
 use Rattle.lsm_model.specs.declared.journal.JournalEntry.TheVariants.{Write, Clear, Install, Dropped, Mark, Read}
-use Rattle.lsm_log_model.proofs.High.{next_of-le}
+use Rattle.lsm_model.proofs.Journals.{next_of-le}
 use Rattle.lsm_log_model.proofs.Orders.{order_join}
 use Rattle.lsm_log_runs.specs.Trying.{IsOverOne}
 

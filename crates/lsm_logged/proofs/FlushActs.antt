@@ -11,6 +11,7 @@ use Rattle.lsm_model.specs.Steps.{State, Flushed}
 use Rattle.lsm_model.specs.Views.{Memtables, Placed}
 use Rattle.lsm_model.specs.Beginnings.{Note, FlushedIds, Saved}
 use Rattle.lsm_model.specs.declared.journal.JournalEntry.TheVariants.{Install}
+use Rattle.lsm_model.proofs.Journals.{next_of-le}
 use Rattle.lsm_memtable.specs.Memtables.{highest_of}
 use Rattle.lsm_versions.specs.Levels.{SeenVersion, placed_in, placed_of}
 use Rattle.lsm_commit.specs.Foreign.{Passes}
@@ -19,7 +20,6 @@ use Rattle.lsm_flush.specs.declared.jobs.Registered.{Registered}
 use Rattle.lsm_log_model.specs.Logs.{Logged as Log, MayBeDrawn, next_from}
 use Rattle.lsm_log_model.proofs.Stacks.{above-append}
 use Rattle.lsm_log_model.proofs.Following.{mems_below}
-use Rattle.lsm_log_model.proofs.High.{next_of-le}
 use Rattle.lsm_parts.specs.declared.version.super_version.SuperVersion.{SuperVersion}
 use Rattle.lsm_state.specs.Core.{Core, state_of}
 use Rattle.lsm_parts.specs.Held.{entries_of}
