@@ -1,16 +1,17 @@
 -- Acts are joined and cut, a counter stays above all that they drew, and deeds of the tree are acts.
-use Rattle.std.proofs.Common.{◌≡◌, ℕ, ◌+◌, ◌<◌, ◌≤◌, max, true, false, cond, List, [], ◌∷◌, ◌++◌, None, flat_map, map, refl, sym, ap, ◌∙◌, subst, arith, append-nil, append_assoc, ◌⊎◌, inl, inr, ⊎_elim}
+use Rattle.std.proofs.Common.{◌≡◌, ℕ, ◌+◌, ◌<◌, ◌≤◌, max, true, false, cond, List, [], ◌∷◌, ◌++◌, None, flat_map, map, refl, sym, ap, ◌∙◌, subst, arith, append-nil, ◌⊎◌, inl, inr, ⊎_elim}
 use Rattle.std.specs.List.{AllByRecursion}
 use Rattle.std.proofs.lemmas.Grind.{flat_map-append, fold-append}
 use Rattle.lsm_below.specs.Entries.{Entry, above}
 use Rattle.lsm_below.specs.Each.{each_append, each_weaker}
-use Rattle.lsm_model.specs.Journal.{Event, Map, InOrder, next_number, next_number_after}
+use Rattle.lsm_model.specs.Journal.{Map, InOrder, next_number, next_number_after}
 use Rattle.lsm_model.specs.Steps.{State, Action, Wrote, Rotated, Flushed, Merged, Moved, DroppedTables, Cleared, Marked, LostDrop, Asked, Maintained, Step}
 use Rattle.lsm_model.specs.Soundness.{Soundness}
 use Rattle.lsm_model.specs.Laws.{MapsAreRead, PartsAreWhole, TablesArePlaced}
 use Rattle.lsm_model.specs.Beginnings.{Saved, Deed, Done, Lost, Deeds, is_commit, told_lost}
 use Rattle.lsm_model.specs.declared.journal.JournalEntry.TheVariants.{Write}
 use Rattle.lsm_model.proofs.Above.{above_each}
+use Rattle.lsm_model.proofs.Crashes.{deeds_grow}
 use Rattle.lsm_model.proofs.Journals.{next_of-le}
 use Rattle.lsm_log_model.specs.Records.{Batch, entries_of, LogImage, logged, opened_by}
 use Rattle.lsm_log_model.specs.Logs.{Logged, MayBeDrawn, is_write, next_from, did, doubted, Act, Batched, BatchLost, Did, CommitLost, Acts, AllActs, MayLeave, MayBeLeft}
@@ -20,7 +21,7 @@ use Rattle.lsm_log_model.proofs.Batches.{each_entry, since_each}
 use Rattle.lsm_log_model.proofs.Orders.{number_writes}
 use Rattle.lsm_log_model.proofs.Writes.{run_journal, deeds_run}
 use Rattle.lsm_log_model.proofs.Following.{mems_below}
-use Rattle.lsm_log_model.proofs.Growth.{tells, act_grown}
+use Rattle.lsm_log_model.proofs.Growth.{act_grown}
 use Rattle.lsm_log_model.proofs.Kept.{IsKept, act_kept}
 use Rattle.lsm_log_model.proofs.Crashes.{from_opened}
 
@@ -135,23 +136,6 @@ module _ (opened : List Entry) where
         above_records = each_weaker _ _ (λ b q. omega arith) old.records n.above_records;
       })
 
--- ---- deeds
-
-deeds_more : (opened : List Entry) (old : Saved) (deeds : List Deed) (new : Saved) → Deeds opened old deeds new → (more : List Event) × (new.state.journal ≡ old.state.journal ++ more)
-deeds_more opened old [] new d = ([], ap (λ (t : Saved). t.state.journal) d ∙ sym (append-nil old.state.journal))
-deeds_more opened old (Done action ∷ deeds) new d =
-    let rest = deeds_more opened d.0 deeds new d.2 in
-    let one = step_more old.state action d.0.state d.1.step in
-    (one.0 ++ rest.0, rest.1 ∙ ap (λ j. j ++ rest.0) one.1 ∙ append_assoc old.state.journal one.0 rest.0)
-  where
-    step_more : (old : State) (action : Action) (new : State) → Step opened old action new → (more : List Event) × (new.journal ≡ old.journal ++ more)
-    step_more old (Wrote e) new m = (Write e ∷ [], m.journal)
-    step_more old other new m = let t = tells opened old other new refl m in (t.0, t.1)
-deeds_more opened old (Lost action would ∷ deeds) new d =
-    let rest = deeds_more opened d.0 deeds new d.2 in
-    let one = told_lost old.state action would in
-    (one ++ rest.0, rest.1 ∙ ap (λ j. j ++ rest.0) (ap (λ (t : State). t.journal) d.1.state) ∙ append_assoc old.state.journal one rest.0)
-
 module _ (theory : Soundness) (maps : MapsAreRead) (whole : PartsAreWhole) (placed : TablesArePlaced) where
   module _ (opened : List Entry) (start : Map) where
     lift : (old : Logged) (deeds : List Deed) (tree : Saved) (c : ℕ) → IsKept opened start old → (d : Deeds opened old.tree deeds tree) → InOrder opened tree.state.journal → MayBeDrawn opened old c → Lifts c opened old deeds tree d
@@ -160,8 +144,8 @@ module _ (theory : Soundness) (maps : MapsAreRead) (whole : PartsAreWhole) (plac
     lift old (Done action ∷ deeds) tree c k d o n l =
         let mid = did old action d.0 in
         let act : Acts opened old (Did action) mid = record { silent = l.0; certain = λ q. (d.1.certain q, (l.1 q).0); drawn = λ q. drawn_later opened old c d.0.state.latest.number (l.1 q).1 n; done = d.1; rest = refl } in
-        let g = deeds_more opened d.0 deeds tree d.2 in
-        let before : InOrder opened d.0.state.journal = theory.kept.front opened d.0.state.journal g.0 (subst (InOrder opened) g.1 o) in
+        let g = deeds_grow opened d.0 deeds tree d.2 in
+        let before : InOrder opened d.0.state.journal = theory.kept.front opened d.0.state.journal g.more (subst (InOrder opened) g.journal o) in
         let next = cond (is_commit action) (d.0.state.latest.number + 1) c in
         let counter : (c ≤ next) × (is_commit action ≡ true → d.0.state.latest.number < next) = elim (is_commit action) as (λ b. (b ≡ true → (old.lost ≡ None) × (c ≤ d.0.state.latest.number)) → (c ≤ cond b (d.0.state.latest.number + 1) c) × (b ≡ true → d.0.state.latest.number < cond b (d.0.state.latest.number + 1) c)) [
           | true ↦ λ h. (let z = (h refl).1 in omega arith, λ q. omega arith)
@@ -171,15 +155,15 @@ module _ (theory : Soundness) (maps : MapsAreRead) (whole : PartsAreWhole) (plac
     lift old (Lost action would ∷ deeds) tree c k d o n l =
         let mid = doubted old action d.0 in
         let act : Acts opened old (CommitLost action would) mid = record { certain = (d.1.certain, l.0); drawn = drawn_later opened old c would.latest.number l.1 n; lost = d.1; rest = refl } in
-        let g = deeds_more opened d.0 deeds tree d.2 in
-        let before : InOrder opened d.0.state.journal = theory.kept.front opened d.0.state.journal g.0 (subst (InOrder opened) g.1 o) in
+        let g = deeds_grow opened d.0 deeds tree d.2 in
+        let before : InOrder opened d.0.state.journal = theory.kept.front opened d.0.state.journal g.more (subst (InOrder opened) g.journal o) in
         let high = l.1 in
         (mid, act, lift mid deeds tree (would.latest.number + 1) (act_kept theory maps whole placed opened start old (CommitLost action would) mid act before k) d.2 o (next_act opened start old (CommitLost action would) mid c (would.latest.number + 1) k act n (omega arith) (omega arith)) l.2)
 
   pub deeds_are_acts : DeedsAreActs
   deeds_are_acts image first old earlier deeds tree c stands r ran d o n l =
-      let g = deeds_more (opened_by image) old.tree deeds tree d in
-      let before = theory.kept.front (opened_by image) old.tree.state.journal g.0 (subst (InOrder (opened_by image)) g.1 o) in
+      let g = deeds_grow (opened_by image) old.tree deeds tree d in
+      let before = theory.kept.front (opened_by image) old.tree.state.journal g.more (subst (InOrder (opened_by image)) g.journal o) in
       lift (opened_by image) (logged image) old deeds tree c (from_opened theory maps whole placed image stands first earlier old r ran before) d o n l
 
   pub counter_stays : CounterStaysAbove

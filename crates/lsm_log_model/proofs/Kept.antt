@@ -14,8 +14,9 @@ use Rattle.lsm_model.specs.Steps.{State, among, Action, Wrote, Rotated, Flushed,
 use Rattle.lsm_model.specs.Sound.{Holds}
 use Rattle.lsm_model.specs.Soundness.{Soundness}
 use Rattle.lsm_model.specs.Laws.{MapsAreRead, PartsAreWhole, TablesArePlaced}
-use Rattle.lsm_model.specs.Beginnings.{beginning, is_spared, spared_after, Note, ClearLost, Lost, is_commit, noted_lost, told_lost, covered, noted_by}
+use Rattle.lsm_model.specs.Beginnings.{beginning, is_spared, spared_after, Note, ClearLost, Lost, is_commit, noted_lost, told_lost, covered}
 use Rattle.lsm_model.specs.declared.journal.JournalEntry.TheVariants.{Write, Clear, Install, Dropped}
+use Rattle.lsm_model.proofs.Crashes.{quiet_covered}
 use Rattle.lsm_model.proofs.Journals.{next_of-le}
 use Rattle.lsm_log_model.specs.Records.{Batch, entries_of, HasDistinctKeys, since, LogImage, LogStands, counted, logged, IsRising}
 use Rattle.lsm_log_model.specs.Logs.{Logged, LostBatch, IsCertain, secured, MayBeDrawn, is_write, next_from, Act, Batched, BatchLost, Did, CommitLost, IsBatched, IsBatchLost, IsDid, IsCommitLost, Acts, HasVersion, HasRecords, MayLeave, lost_of, LogIsSound}
@@ -223,15 +224,6 @@ module _ (theory : Soundness) (maps : MapsAreRead) (whole : PartsAreWhole) (plac
   quiet_from old from (Flushed w job made) q = absurd (cc q)
   quiet_from old from (Cleared n a) q = absurd (cc q)
   quiet_from old from other q = refl
-
-  -- what is no commit covers nothing
-  quiet_covered : (old : State) (action : Action) (notes : List Note) → is_commit action ≡ false → covered (noted_by old action ++ notes) ≡ covered notes
-  quiet_covered old (Flushed w job made) notes q = absurd (cc q)
-  quiet_covered old (Merged w d ids evict made) notes q = absurd (cc q)
-  quiet_covered old (Moved d ids moved) notes q = absurd (cc q)
-  quiet_covered old (DroppedTables ids) notes q = absurd (cc q)
-  quiet_covered old (Cleared n a) notes q = absurd (cc q)
-  quiet_covered old other notes q = refl
 
   -- whether an outcome is unknown
   certain_or : (t : Logged) → IsCertain t ⊎ (IsCertain t → ⊥)

@@ -122,7 +122,7 @@ more_covered (ClearedTo p ∷ extra) notes = let r = more_covered extra notes in
 more_covered (ClearLost n p ∷ extra) notes = more_covered extra notes
 
 -- what is no commit covers nothing
-quiet_covered : (old : State) (action : Action) (notes : List Note) → is_commit action ≡ false → covered (noted_by old action ++ notes) ≡ covered notes
+pub quiet_covered : (old : State) (action : Action) (notes : List Note) → is_commit action ≡ false → covered (noted_by old action ++ notes) ≡ covered notes
 quiet_covered old (Flushed w job made) notes q = absurd (cc q)
 quiet_covered old (Merged w d ids evict made) notes q = absurd (cc q)
 quiet_covered old (Moved d ids placed) notes q = absurd (cc q)
@@ -161,10 +161,10 @@ pub record IsBegun (opened : List Entry) (start : Map) (t : Saved) : Type 0 wher
 
 -- journal and notes only grow
 pub record Grows (old new : Saved) : Type 0 where
-  more : List Event
-  extra : List Note
-  journal : new.state.journal ≡ old.state.journal ++ more
-  notes : new.notes ≡ extra ++ old.notes
+  pub more : List Event
+  pub extra : List Note
+  pub journal : new.state.journal ≡ old.state.journal ++ more
+  pub notes : new.notes ≡ extra ++ old.notes
 
 grows_itself : (t : Saved) → Grows t t
 grows_itself t = record { more = []; extra = []; journal = sym (append-nil t.state.journal); notes = refl }
@@ -177,7 +177,7 @@ grows_on a b c f g = record {
   notes = g.notes ∙ ap (λ ns. g.extra ++ ns) f.notes ∙ sym (append_assoc g.extra f.extra a.notes);
 }
 
-does_grow : (opened : List Entry) (old : Saved) (deed : Deed) (new : Saved) → Does opened old deed new → Grows old new
+pub does_grow : (opened : List Entry) (old : Saved) (deed : Deed) (new : Saved) → Does opened old deed new → Grows old new
 does_grow opened old (Done action) new d = let g = step_grows opened old.state action new.state d.step in record { more = g.0; extra = noted_by old.state action; journal = g.1; notes = d.notes }
 does_grow opened old (Lost action would) new d = record { more = told_lost old.state action would; extra = noted_lost old.state action; journal = ap (λ (t : State). t.journal) d.state; notes = d.notes }
 

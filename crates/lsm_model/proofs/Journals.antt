@@ -83,6 +83,15 @@ floor_steps n m (x ∷ journal) h = floor_steps (floor_after n x) (next_number_a
 pub floor-le : (opened : List Entry) (journal : List Event) → floor journal ≤ next_number opened journal
 floor-le opened journal = floor_steps 0 (above opened) journal (omega arith)
 
+-- numbers that calls take grow
+pub numbers_grow : (n : ℕ) (journal : List Event) → n ≤ fold next_number_after n journal
+numbers_grow n [] = omega arith
+numbers_grow n (x ∷ journal) = let a = one x in let b = numbers_grow (next_number_after n x) journal in omega arith
+  where
+    one : (x : Event) → n ≤ next_number_after n x
+    one (Write e) = omega arith
+    one other = omega arith
+
 in_order_last_from : (opened : List Entry) (before journal : List Event) (x : Event) → InOrderFrom opened before (journal ++ x ∷ []) → MayCome opened (before ++ journal) x
 in_order_last_from opened before [] x h = subst (λ js. MayCome opened js x) (sym (append-nil before)) h.0
 in_order_last_from opened before (y ∷ journal) x h = subst (λ js. MayCome opened js x) (append_assoc before (y ∷ []) journal) (in_order_last_from opened (before ++ y ∷ []) journal x h.1)
@@ -97,6 +106,14 @@ in_order_last opened journal x h = in_order_last_from opened [] journal x h
 
 pub in_order_front : (opened : List Entry) (journal more : List Event) → InOrder opened (journal ++ more) → InOrder opened journal
 in_order_front opened journal more h = in_order_front_from opened [] journal more h
+
+-- what may come last keeps a journal in order
+pub in_order_push : (opened : List Entry) (journal : List Event) (x : Event) → InOrder opened journal → MayCome opened journal x → InOrder opened (journal ++ x ∷ [])
+in_order_push opened journal x o m = from [] journal o m
+  where
+    from : (before journal : List Event) → InOrderFrom opened before journal → MayCome opened (before ++ journal) x → InOrderFrom opened before (journal ++ x ∷ [])
+    from before [] o m = (subst (λ j. MayCome opened j x) (append-nil before) m, tt)
+    from before (y ∷ journal) o m = (o.0, from (before ++ y ∷ []) journal o.1 (subst (λ j. MayCome opened j x) (sym (append_assoc before (y ∷ []) journal)) m))
 
 pub not_kept : (s : ℕ) (more : List Event) → fold (kept_after s) false more ≡ false
 not_kept s [] = refl

@@ -9,10 +9,11 @@ use Rattle.lsm_model.specs.Steps.{State}
 use Rattle.lsm_model.specs.Views.{Placed, held, HasDistinctIds}
 use Rattle.lsm_model.specs.Soundness.{Soundness}
 use Rattle.lsm_model.specs.Beginnings.{Saved, Deed, Done, Lost, Deeds, IsFound, IsBeginning, Recovers, EveryCrashRecovers, DeedsJoin, versions, covered, shown_by}
+use Rattle.lsm_model.proofs.Crashes.{deeds_grow}
 use Rattle.lsm_run_model.specs.Outcomes.{Told, Past, after, after_all, without_low_reads}
 use Rattle.lsm_run_model.specs.Moments.{HoldsBeginning, EachMoment, last_of}
 use Rattle.lsm_run_model.specs.Composing.{past_of, IsRight, CameAbout, Point, StandsAt, FindsAmong, IsOfEither, DoesCall, EachDoes, TablesShow, AreNumbered, Composed, RunsCompose, EachHasDeeds, ReadsStayRight}
-use Rattle.lsm_run_model.proofs.Numbers.{deeds_grow, IsSmall, deeds_small, start_small, front_numbered}
+use Rattle.lsm_run_model.proofs.Numbers.{IsSmall, deeds_small, start_small, front_numbered}
 
 -- ---- journals
 
@@ -76,7 +77,7 @@ module _ (theory : Soundness) (crashes : EveryCrashRecovers) (join : DeedsJoin) 
     old_small : IsSmall theory opened start n old.tree
     old_small =
         let g = deeds_grow opened old.tree d.deeds new.tree d.done in
-        came_small theory opened start n old.tree c (front_numbered theory opened start n old.tree.state.journal g.0 new.tree.state.journal g.1 small)
+        came_small theory opened start n old.tree c (front_numbered theory opened start n old.tree.state.journal g.more new.tree.state.journal g.journal small)
 
     holds : (least : ℕ) (image : Image) (tables : List Placed) → Finds image tables → Recovers start new.tree.state.journal new.tree.notes least tables → above (held tables) ≤ n → HoldsBeginning Shows start next least image
     holds least image tables found r low = record {

@@ -1,51 +1,20 @@
 -- Beginnings as a journal grows, and the moments of a whole run.
-use Rattle.std.proofs.Common.{◌≡◌, ◌⊎◌, ⊎_elim, inl, inr, ℕ, zero, suc, ◌≤◌, Bool, true, false, cond, List, [], ◌∷◌, ◌++◌, fold, map, take, drop, length, refl, sym, ap, ◌∙◌, subst, arith, append_assoc}
-use Rattle.std.proofs.lemmas.List.{length-append}
+use Rattle.std.proofs.Common.{◌≡◌, ◌⊎◌, ⊎_elim, inl, inr, ℕ, zero, suc, ◌≤◌, true, List, [], ◌∷◌, ◌++◌, fold, map, take, drop, length, refl, sym, ap, ◌∙◌, subst, arith, append_assoc}
+use Rattle.std.proofs.lemmas.List.{length-append, take-append-le, drop-append-le}
 use Rattle.std.proofs.lemmas.Grind.{fold-append}
-use Rattle.lsm_below.specs.Keys.{Bytes}
 use Rattle.lsm_below.specs.Entries.{Entry}
 use Rattle.lsm_below.specs.Members.{IsIn}
 use Rattle.lsm_store.specs.World.{Image, World, LeavesOnly}
-use Rattle.lsm_model.specs.Journal.{Map, Event, in_any}
-use Rattle.lsm_model.specs.Beginnings.{Note, SealedAt, FlushedIds, ClearedTo, ClearLost, IsBeginning, covered, spared_after, spoiled_after, is_spared}
-use Rattle.lsm_model.specs.declared.journal.JournalEntry.TheVariants.{Write, Clear, Install, Dropped, Mark, Read}
+use Rattle.lsm_model.specs.Journal.{Map, Event}
+use Rattle.lsm_model.specs.Beginnings.{Note, ClearLost, IsBeginning, covered, spared_after, spoiled_after, is_spared}
+use Rattle.lsm_model.specs.declared.journal.JournalEntry.TheVariants.{Clear}
+use Rattle.lsm_model.proofs.Beginnings.{spared_all}
+use Rattle.lsm_model.proofs.Crashes.{is_in_behind, more_covered}
 use Rattle.lsm_run_model.specs.Outcomes.{Told, Past, after, after_all, without_low_reads, note_at}
 use Rattle.lsm_run_model.specs.Moments.{HoldsBeginning, LeavesNow, EachMoment, last_of}
 use Rattle.lsm_run_model.specs.Following.{BeginningsGrow, MomentsMakeRuns, MomentsSince, MomentsJoin, IsReached, EveryImageIsACalls}
 
--- ---- lists
-
-take_front : {A : Type 0} (n : ℕ) (xs ys : List A) → n ≤ length xs → take n (xs ++ ys) ≡ take n xs
-take_front zero xs ys l = refl
-take_front (suc n) [] ys l = absurd (omega arith)
-take_front (suc n) (x ∷ xs) ys l = ap (λ zs. x ∷ zs) (take_front n xs ys (omega arith))
-
-drop_front : {A : Type 0} (n : ℕ) (xs ys : List A) → n ≤ length xs → drop n (xs ++ ys) ≡ drop n xs ++ ys
-drop_front zero xs ys l = refl
-drop_front (suc n) [] ys l = absurd (omega arith)
-drop_front (suc n) (x ∷ xs) ys l = drop_front n xs ys (omega arith)
-
-in_behind : {A : Type 0} (x : A) (xs ys : List A) → IsIn x ys → IsIn x (xs ++ ys)
-in_behind x [] ys i = i
-in_behind x (z ∷ xs) ys i = inr (in_behind x xs ys i)
-
 -- ---- beginnings
-
--- what is spared after more events was so before them
-spoiled_one : (k : Bytes) (b : Bool) (x : Event) → spoiled_after k b x ≡ true → b ≡ true
-spoiled_one k b (Write e) h = h
-spoiled_one k b (Clear n) h = h
-spoiled_one k b (Install n) h = h
-spoiled_one k b (Dropped ranges n) h = elim (in_any k ranges) as (λ c. cond c false b ≡ true → b ≡ true) [
-  | true ↦ λ q. absurd (cc q)
-  | false ↦ λ q. q
-] h
-spoiled_one k b (Mark w) h = h
-spoiled_one k b (Read s question told) h = h
-
-spared_less : (k : Bytes) (b : Bool) (more : List Event) → fold (spoiled_after k) b more ≡ true → b ≡ true
-spared_less k b [] h = h
-spared_less k b (x ∷ more) h = spoiled_one k b x (spared_less k (spoiled_after k b x) more h)
 
 pub beginnings_grow : BeginningsGrow
 beginnings_grow start journal more notes extra least low m lower b = record {
@@ -54,22 +23,14 @@ beginnings_grow start journal more notes extra least low m lower b = record {
   within = let w = b.within in let l = length-append journal more in omega arith;
   front = b.front;
   is_front = ⊎_elim
-      (λ e. inl (e ∙ sym (take_front b.place journal more b.within)))
-      (λ (f : (n : ℕ) × IsIn (ClearLost n b.place) notes × (b.front ≡ take b.place journal ++ Clear n ∷ [])). inr (f.0, in_behind (ClearLost f.0 b.place) extra notes f.1, f.2 ∙ ap (λ es. es ++ Clear f.0 ∷ []) (sym (take_front b.place journal more b.within))))
+      (λ e. inl (e ∙ sym (take-append-le b.place journal more b.within)))
+      (λ (f : (n : ℕ) × IsIn (ClearLost n b.place) notes × (b.front ≡ take b.place journal ++ Clear n ∷ [])). inr (f.0, is_in_behind (ClearLost f.0 b.place) extra notes f.1, f.2 ∙ ap (λ es. es ++ Clear f.0 ∷ []) (sym (take-append-le b.place journal more b.within))))
       b.is_front;
-  shows = λ k spared. b.shows k (spared_less k (is_spared k b.front (drop b.place journal)) more
-      (sym (fold-append (spoiled_after k) (fold (spared_after k) true b.front) (drop b.place journal) more) ∙ ap (λ es. fold (spoiled_after k) (fold (spared_after k) true b.front) es) (sym (drop_front b.place journal more b.within)) ∙ spared));
+  shows = λ k spared. b.shows k (spared_all k (is_spared k b.front (drop b.place journal)) more
+      (sym (fold-append (spoiled_after k) (fold (spared_after k) true b.front) (drop b.place journal) more) ∙ ap (λ es. fold (spoiled_after k) (fold (spared_after k) true b.front) es) (sym (drop-append-le b.place journal more b.within)) ∙ spared));
 }
 
 -- ---- notes grow
-
--- with more notes more is covered
-more_covered : (extra notes : List Note) → covered notes ≤ covered (extra ++ notes)
-more_covered [] notes = omega arith
-more_covered (SealedAt i p ∷ extra) notes = more_covered extra notes
-more_covered (FlushedIds ids ∷ extra) notes = let h = more_covered extra notes in omega arith
-more_covered (ClearedTo p ∷ extra) notes = let h = more_covered extra notes in omega arith
-more_covered (ClearLost n p ∷ extra) notes = more_covered extra notes
 
 -- what a run adds to a past
 pub record Grown (past all : Past) : Type 0 where

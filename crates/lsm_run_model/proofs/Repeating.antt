@@ -4,7 +4,7 @@ use Rattle.std.specs.List.{AllByRecursion}
 use Rattle.std.proofs.lemmas.Grind.{fold-append}
 use Rattle.lsm_below.specs.Entries.{Entry}
 use Rattle.lsm_below.specs.Each.{each_left, each_right}
-use Rattle.lsm_model.specs.Journal.{Event, Map, InOrder, InOrderFrom, MayCome, next_number, next_number_after, answer}
+use Rattle.lsm_model.specs.Journal.{Event, Map, InOrder, next_number, next_number_after, answer}
 use Rattle.lsm_model.specs.Views.{SuperVersion, view, sources, answered, found_at, lookup, front, ranges_of}
 use Rattle.lsm_model.specs.Steps.{State, history, Action, Wrote, Rotated, Flushed, Merged, Moved, DroppedTables, Cleared, Marked, LostDrop, Asked, Maintained, Step, StaysAt, IsSparedBy, among}
 use Rattle.lsm_model.specs.Sound.{Holds}
@@ -13,9 +13,9 @@ use Rattle.lsm_model.specs.Beginnings.{Saved, Deed, Done, Lost, Does, Deeds, tol
 use Rattle.lsm_model.specs.declared.journal.JournalEntry.TheVariants.{Write, Clear, Install, Dropped, Mark, Read}
 use Rattle.lsm_model.specs.declared.question.Question.{Question}
 use Rattle.lsm_model.specs.declared.question.Answer.{Answer}
-use Rattle.lsm_model.proofs.Journals.{floor-le}
+use Rattle.lsm_model.proofs.Crashes.{deeds_grow}
+use Rattle.lsm_model.proofs.Journals.{floor-le, in_order_last}
 use Rattle.lsm_run_model.specs.Repeating.{ReadsShareAMap, CameAboutReads}
-use Rattle.lsm_run_model.proofs.Numbers.{deeds_grow}
 
 -- ---- lists
 
@@ -52,15 +52,6 @@ IsNoRead (Read s question told) = ⊥
 
 each_mid : (P : Event → Type 0) (xs : List Event) (y : Event) (ys : List Event) → AllByRecursion P (xs ++ y ∷ ys) → P y
 each_mid P xs y ys h = (each_right P xs (y ∷ ys) h).0
-
--- ---- the last event
-
-order_last_from : (opened : List Entry) (before xs : List Event) (x : Event) → InOrderFrom opened before (xs ++ x ∷ []) → MayCome opened (before ++ xs) x
-order_last_from opened before [] x h = subst (λ j. MayCome opened j x) (sym (append-nil before)) h.0
-order_last_from opened before (y ∷ xs) x h = subst (λ j. MayCome opened j x) (append_assoc before (y ∷ []) xs) (order_last_from opened (before ++ y ∷ []) xs x h.1)
-
-order_last : (opened : List Entry) (xs : List Event) (x : Event) → InOrder opened (xs ++ x ∷ []) → MayCome opened xs x
-order_last opened xs x h = order_last_from opened [] xs x h
 
 -- ---- what is found
 
@@ -121,7 +112,7 @@ module _ (theory : Soundness) (opened : List Entry) (start : Map) where
   -- an install after what may come between
   recent : (old : State) (journal : List Event) (n : ℕ) → Holds opened start old → next_number opened old.journal ≡ next_number opened journal → InOrder opened (journal ++ Install n ∷ []) → old.latest.number ≤ n
   recent old journal n h same o =
-      let m = order_last opened journal (Install n) o in
+      let m = in_order_last opened journal (Install n) o in
       let r = h.sound.recent in
       let f = floor-le opened old.journal in omega arith
 
@@ -158,7 +149,7 @@ module _ (theory : Soundness) (opened : List Entry) (start : Map) where
   adds old (Cleared n a) new q d o h =
       let journal : new.journal ≡ old.journal ++ Clear n ∷ [] = ap (λ (t : State). t.journal) d.1 in
       let number : new.latest.number ≡ n = ap (λ (t : State). t.latest.number) d.1 in
-      let m = order_last opened old.journal (Clear n) (subst (InOrder opened) journal o) in
+      let m = in_order_last opened old.journal (Clear n) (subst (InOrder opened) journal o) in
       let r = h.sound.recent in
       let f = floor-le opened old.journal in
       record { events = Clear n ∷ []; journal = journal; unread = (tt, tt); stays = λ s all. theory.spares.step opened start s old (Cleared n a) new d o all.0 h; back = λ s. committed_found s old new (ap (λ (t : State). t.older) d.1) (omega arith) }
@@ -297,7 +288,7 @@ module _ (theory : Soundness) (opened : List Entry) (start : Map) where
   by_deeds old [] new d o h b = subst (λ (t : Saved). Both t.state) (sym d) b
   by_deeds old (deed ∷ deeds) new d o h b =
       let g = deeds_grow opened d.0 deeds new d.2 in
-      let o' : InOrder opened d.0.state.journal = theory.kept.front opened d.0.state.journal g.0 (subst (InOrder opened) g.1 o) in
+      let o' : InOrder opened d.0.state.journal = theory.kept.front opened d.0.state.journal g.more (subst (InOrder opened) g.journal o) in
       by_deeds d.0 deeds new d.2 o (theory.kept.deeds opened start old (deed ∷ []) d.0 (d.0, d.1, refl) o' h) (by_does old deed d.0 d.1 o' h b)
 
 no_event : (front rest : List Event) (x : Event) → [] ≡ front ++ x ∷ rest → ⊥

@@ -10,10 +10,9 @@ use Rattle.lsm_model.specs.Journal.{Event, InOrder, next_after, next_of, next_nu
 use Rattle.lsm_model.specs.Views.{EachPair}
 use Rattle.lsm_model.specs.Laws.{MapsAreRead}
 use Rattle.lsm_model.specs.declared.journal.JournalEntry.TheVariants.{Write, Clear, Install, Dropped, Mark, Read}
-use Rattle.lsm_model.proofs.Journals.{next_of-le, floor-le}
+use Rattle.lsm_model.proofs.Journals.{next_of-le, floor-le, in_order_push}
 use Rattle.lsm_run_model.specs.Outcomes.{Told, journal_of}
 use Rattle.lsm_run_model.specs.Rising.{Drawing, Silent, Own, Raises, Reserves, Draws, Standing, At, UpTo, IsWhere, most, moved, unused, MayDraw, RisesFrom, Asks, times, WeakOnce, IsUnnumbered, IsBatch, IsCommitted, UsesNumbers, UsesKeys, EachUses, StandsBelow, StaysInOrder, RisingIsInOrder, RisingFront, RisingLower}
-use Rattle.lsm_run_model.proofs.Numbers.{order_more}
 
 -- ---- keys
 
@@ -40,9 +39,9 @@ module _ (maps : MapsAreRead) (opened : List Entry) where
   unnumbered_one journal (Write e) n u h = absurd u
   unnumbered_one journal (Clear m) n u h = absurd u
   unnumbered_one journal (Install m) n u h = absurd u
-  unnumbered_one journal (Dropped ranges m) n u h = (order_more opened journal (Dropped ranges m) h.0 tt, let e = number_more journal (Dropped ranges m) in let l = h.1 in omega arith)
-  unnumbered_one journal (Mark w) n u h = (order_more opened journal (Mark w) h.0 tt, let e = number_more journal (Mark w) in let l = h.1 in omega arith)
-  unnumbered_one journal (Read s question told) n u h = (order_more opened journal (Read s question told) h.0 tt, let e = number_more journal (Read s question told) in let l = h.1 in omega arith)
+  unnumbered_one journal (Dropped ranges m) n u h = (in_order_push opened journal (Dropped ranges m) h.0 tt, let e = number_more journal (Dropped ranges m) in let l = h.1 in omega arith)
+  unnumbered_one journal (Mark w) n u h = (in_order_push opened journal (Mark w) h.0 tt, let e = number_more journal (Mark w) in let l = h.1 in omega arith)
+  unnumbered_one journal (Read s question told) n u h = (in_order_push opened journal (Read s question told) h.0 tt, let e = number_more journal (Read s question told) in let l = h.1 in omega arith)
 
   unnumbered : (journal events : List Event) (n : ℕ) → AllByRecursion IsUnnumbered events → IsBelow journal n → IsBelow (journal ++ events) n
   unnumbered journal [] n u h = subst (λ j. IsBelow j n) (sym (append-nil journal)) h
@@ -53,7 +52,7 @@ module _ (maps : MapsAreRead) (opened : List Entry) where
   IsSpent journal e = is_weak e ≡ true → sets_of e.key.user_key opened journal ≤ 1
 
   write_one : (journal : List Event) (e : Entry) (n : ℕ) → e.key.seqno ≡ n → IsSpent journal e → floor journal ≤ n → next_of e.key.user_key opened journal ≤ n → InOrder opened journal → InOrder opened (journal ++ Write e ∷ [])
-  write_one journal e n is spent f own o = order_more opened journal (Write e) o (record { after_installs = omega arith; after_own = omega arith; single = spent })
+  write_one journal e n is spent f own o = in_order_push opened journal (Write e) o (record { after_installs = omega arith; after_own = omega arith; single = spent })
 
   own_write : (journal : List Event) (e : Entry) (n : ℕ) → e.key.seqno ≡ n → IsSpent journal e → IsBelow journal n → IsBelow (journal ++ Write e ∷ []) (n + 1)
   own_write journal e n is spent h =
@@ -100,8 +99,8 @@ module _ (maps : MapsAreRead) (opened : List Entry) where
   committed journal x n is h =
       let l = h.1 in
       ⊎_elim
-      (λ (e : x ≡ Install n). subst (λ y. IsBelow (journal ++ y ∷ []) (n + 1)) (sym e) (order_more opened journal (Install n) h.0 l, let to = number_more journal (Install n) in omega arith))
-      (λ (e : x ≡ Clear n). subst (λ y. IsBelow (journal ++ y ∷ []) (n + 1)) (sym e) (order_more opened journal (Clear n) h.0 l, let to = number_more journal (Clear n) in omega arith))
+      (λ (e : x ≡ Install n). subst (λ y. IsBelow (journal ++ y ∷ []) (n + 1)) (sym e) (in_order_push opened journal (Install n) h.0 l, let to = number_more journal (Install n) in omega arith))
+      (λ (e : x ≡ Clear n). subst (λ y. IsBelow (journal ++ y ∷ []) (n + 1)) (sym e) (in_order_push opened journal (Clear n) h.0 l, let to = number_more journal (Clear n) in omega arith))
       is
 
   -- ---- keys that are set
