@@ -2,12 +2,12 @@ pub mod Images
 pub mod Keeping
 pub mod Removals
 pub mod Committed
+pub mod Beside
+pub mod Passing
 pub mod NextFiles
 pub mod Tabled
 pub mod WrittenFiles
-pub mod Beside
 pub mod Opened
 pub mod Foreign
-pub mod Passing
 pub mod PassingOpened
 pub mod Readied

@@ -1,15 +1,19 @@
 -- Tables that are written under the next ids.
-use Rattle.std.specs.Prelude.{◌≡◌, ◌≢◌, ℕ, ◌+◌, ◌<◌, ◌≤◌, ◌^◌, List, length, map, flat_map}
+use Rattle.std.specs.Prelude.{◌≡◌, ◌≢◌, ◌⊎◌, ℕ, ◌+◌, ◌<◌, ◌≤◌, ◌^◌, List, length, map, flat_map, Result, IfErr, IsErrOf}
 use Rattle.std.specs.List.{AllByRecursion}
+use Rattle.lsm_below.specs.declared.error.Error.{Error}
+use Rattle.lsm_below.specs.declared.error.Error.TheVariants.{OutOfMemory, Store, OutOfNumbers}
 use Rattle.lsm_below.specs.Entries.{Entry}
 use Rattle.lsm_below.specs.Runs.{IsRun}
-use Rattle.lsm_store.specs.World.{Image, World}
+use Rattle.lsm_store.specs.World.{Image, World, LeavesOnly}
 use Rattle.lsm_tables.specs.Cutting.{IsCutting}
 use Rattle.lsm_tables.specs.Tables.{SeenTable}
 use Rattle.lsm_versions.specs.Levels.{SeenVersion, range, all_of, HasOwnIds}
+use Rattle.lsm_versions.specs.declared.config.TheConstants.{LIMIT}
 use Rattle.lsm_manifest.specs.Names.{table_name}
 use Rattle.lsm_commit.specs.declared.tables.TheConstants.{TABLE_TARGET}
-use Rattle.lsm_commit.specs.Stored.{IsStored, Keeps, Leaves}
+use Rattle.lsm_commit.specs.Stored.{IsStored, Keeps, Leaves, CountsFaults}
+use Rattle.lsm_commit.specs.Foreign.{Passes}
 
 -- the tables that hold these entries, made at this moment, each cut where it has the target of 64 MiB, under ids from first on and below
 -- next, of which each table has one
@@ -43,3 +47,18 @@ AreBelow first versions = AllByRecursion (λ v. AllByRecursion (λ t. t.id < fir
 abbrev pub KeepsStored : ℕ → World → World → Type 0
 KeepsStored first old new = (versions : List SeenVersion) (written : List SeenTable) → IsStored old versions written → AreBelow first versions → AllByRecursion (λ t. t.id < first) written
     → IsStored new versions written × Leaves old new versions
+
+-- while tables' files are written from this id on, answered or not, all else stays, also in what a crash meanwhile leaves: so what is
+-- stored of lesser ids, and foreign names
+pub record WritesFrom (first : ℕ) (old new : World) : Type 0 where
+  pub keeps : KeepsElsewhere first old new
+  pub any_moment : LeavesOnly old new (IsKeptElsewhere first old)
+  pub stored : KeepsStored first old new
+  pub passes : Passes old new
+
+-- such writing is refused for want of memory, where a call of the store failed, or where the next id is 2^63 or more, and the store's
+-- count of failures tells it
+pub record RefusesWriting {T : Type 0} (r : Result T Error) (next : ℕ) (old new : World) : Type 0 where
+  pub out_of_numbers : IsErrOf r OutOfNumbers → LIMIT ≤ next
+  pub only : IfErr r (λ e. ((e ≡ OutOfMemory) ⊎ (e ≡ Store)) ⊎ (e ≡ OutOfNumbers))
+  pub counts : CountsFaults old new r

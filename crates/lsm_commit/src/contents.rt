@@ -1,12 +1,11 @@
 // Files of tables that are written from their contents.
-ghost use Rattle.std.specs.Prelude.{◌≡◌, ◌+◌, ◌≤◌, ◌<◌, ◌⊎◌, length, OnOk, IfOk, IfErr, IsErrOf};
+ghost use Rattle.std.specs.Prelude.{◌≡◌, ◌+◌, ◌≤◌, ◌<◌, ◌⊎◌, length, OnOk, IfOk, IfErr};
 ghost use Rattle.std.specs.List.{AllByRecursion, range_with_len};
 ghost use Rattle.lsm_store.specs.World.{LeavesOnly};
 ghost use Rattle.lsm_store.specs.Synced.{IsBeside, KeepsOthers};
 ghost use Rattle.lsm_manifest.specs.Names.{table_name};
 ghost use Rattle.lsm_commit.specs.Stored.{CountsFaults};
-ghost use Rattle.lsm_commit.specs.Foreign.{Passes};
-ghost use Rattle.lsm_commit.specs.Writing.{KeepsElsewhere, IsKeptElsewhere, KeepsStored};
+ghost use Rattle.lsm_commit.specs.Writing.{WritesFrom, RefusesWriting};
 ghost use Rattle.lsm_commit.specs.Contents.{IsWritten, AreWritten};
 
 use bytes::Bytes;
@@ -31,39 +30,6 @@ pub(crate) fn write_file<S: Store>(store: &mut S, id: TableId, content: &Bytes) 
     }
 }
 
-/// `write_contents`, told of the names alone.
-fn write_named<S: Store>(
-    alloc: Global,
-    store: &mut S,
-    next: &mut TableId,
-    contents: &[Bytes],
-) -> Result<Vec<TableId>, Error>
-    ensures ids { IfOk result (λ ids. ids.items ≡ range_with_len next.old (length contents.now)) }
-    ensures below { IfOk result (λ ids. AllByRecursion (λ i. i < LIMIT) ids.items) }
-    ensures next { IfOk result (λ _. next.new ≡ next.old + length contents.now) }
-    ensures rises { next.old ≤ next.new }
-    ensures draws { next.new ≤ next.old + length contents.now }
-    ensures on_disk { S.tells → IfOk result (λ ids. AreWritten (S.world store.new) ids.items contents.now) }
-    ensures keeps { S.tells → KeepsElsewhere next.old (S.world store.old) (S.world store.new) }
-    ensures any_moment { S.tells → LeavesOnly (S.world store.old) (S.world store.new) (IsKeptElsewhere next.old (S.world store.old)) }
-    ensures out_of_numbers { IsErrOf result Error.OutOfNumbers → LIMIT ≤ next.new }
-    ensures only { IfErr result (λ e. ((e ≡ Error.OutOfMemory) ⊎ (e ≡ Error.Store)) ⊎ (e ≡ Error.OutOfNumbers)) }
-    ensures counts { CountsFaults (S.world store.old) (S.world store.new) result }
-{
-    names_are_apart();
-    let mut ids = Vec::new(alloc);
-    for content in contents {
-        let id = *next;
-        if id >= LIMIT {
-            return Err(Error::OutOfNumbers);
-        }
-        ids.push(id)?;
-        *next = id + 1;
-        write_file(store, id, content)?;
-    }
-    Ok(ids)
-}
-
 /// Writes files of tables under the ids from `next` on, one after the other, and syncs each. Returns the ids, one for
 /// each content in turn. No contents: no call of the store. The cost is linear in the bytes.
 ///
@@ -82,18 +48,20 @@ pub fn write_contents<S: Store>(
     ensures next { IfOk result (λ _. next.new ≡ next.old + length contents.now) }
     ensures rises { next.old ≤ next.new }
     ensures draws { next.new ≤ next.old + length contents.now }
-    // What a crash leaves.
     ensures on_disk { S.tells → IfOk result (λ ids. AreWritten (S.world store.new) ids.items contents.now) }
-    ensures keeps { S.tells → KeepsElsewhere next.old (S.world store.old) (S.world store.new) }
-    ensures any_moment { S.tells → LeavesOnly (S.world store.old) (S.world store.new) (IsKeptElsewhere next.old (S.world store.old)) }
-    ensures stored { S.tells → KeepsStored next.old (S.world store.old) (S.world store.new) }
-    // Names that are none of the tree's are as they were.
-    ensures passes { S.tells → Passes (S.world store.old) (S.world store.new) }
-    // Refusals.
-    ensures out_of_numbers { IsErrOf result Error.OutOfNumbers → LIMIT ≤ next.new }
-    ensures only { IfErr result (λ e. ((e ≡ Error.OutOfMemory) ⊎ (e ≡ Error.Store)) ⊎ (e ≡ Error.OutOfNumbers)) }
-    ensures counts { CountsFaults (S.world store.old) (S.world store.new) result }
+    ensures files { S.tells → WritesFrom next.old (S.world store.old) (S.world store.new) }
+    ensures refuses { RefusesWriting result next.new (S.world store.old) (S.world store.new) }
 {
     names_are_apart();
-    write_named(alloc, store, next, contents)
+    let mut ids = Vec::new(alloc);
+    for content in contents {
+        let id = *next;
+        if id >= LIMIT {
+            return Err(Error::OutOfNumbers);
+        }
+        ids.push(id)?;
+        *next = id + 1;
+        write_file(store, id, content)?;
+    }
+    Ok(ids)
 }

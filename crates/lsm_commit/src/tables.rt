@@ -1,13 +1,12 @@
 // Tables that are written and on the disk.
-ghost use Rattle.std.specs.Prelude.{◌≡◌, ◌+◌, ◌≤◌, ◌⊎◌, length, IfOk, IfErr, IsErrOf};
+ghost use Rattle.std.specs.Prelude.{◌≡◌, ◌+◌, ◌≤◌, ◌⊎◌, length, IfOk, IfErr};
 ghost use Rattle.lsm_store.specs.World.{LeavesOnly};
 ghost use Rattle.lsm_store.specs.Synced.{IsBeside, KeepsOthers};
 ghost use Rattle.lsm_tables.specs.Image.{IsTable, image};
 ghost use Rattle.lsm_tables.specs.Cutting.{IsWritable};
 ghost use Rattle.lsm_manifest.specs.Names.{table_name};
 ghost use Rattle.lsm_commit.specs.Stored.{IsTableOnDisk, AreOnDisk, CountsFaults};
-ghost use Rattle.lsm_commit.specs.Foreign.{Passes};
-ghost use Rattle.lsm_commit.specs.Writing.{HoldEntries, KeepsElsewhere, IsKeptElsewhere, KeepsStored};
+ghost use Rattle.lsm_commit.specs.Writing.{HoldEntries, WritesFrom, RefusesWriting};
 
 use crate::contents::write_file;
 use bytes::Bytes;
@@ -70,42 +69,6 @@ fn write_table<S: Store>(
     table_of(alloc, id, made_at, entries, file)
 }
 
-/// `write_tables`, told of the names alone.
-fn write_each<S: Store>(
-    alloc: Global,
-    store: &mut S,
-    next: &mut TableId,
-    made_at: u64,
-    entries: &Entries<'_>,
-) -> Result<Vec<Table>, Error>
-    requires { IsWritable entries.now }
-    ensures tables { IfOk result (λ tables. HoldEntries made_at entries.now next.old next.new tables.items) }
-    ensures rises { next.old ≤ next.new }
-    ensures draws { next.new ≤ next.old + length entries.now }
-    ensures on_disk { S.tells → IfOk result (λ tables. AreOnDisk (S.world store.new) tables.items) }
-    ensures keeps { S.tells → KeepsElsewhere next.old (S.world store.old) (S.world store.new) }
-    ensures any_moment { S.tells → LeavesOnly (S.world store.old) (S.world store.new) (IsKeptElsewhere next.old (S.world store.old)) }
-    ensures out_of_numbers { IsErrOf result Error.OutOfNumbers → LIMIT ≤ next.new }
-    ensures only { IfErr result (λ e. ((e ≡ Error.OutOfMemory) ⊎ (e ≡ Error.Store)) ⊎ (e ≡ Error.OutOfNumbers)) }
-    ensures counts { CountsFaults (S.world store.old) (S.world store.new) result }
-{
-    names_are_apart();
-    cut_tables_are_runs();
-    let mut tables = Vec::new(alloc);
-    let mut rest = entries.copy();
-    while !rest.is_empty() {
-        let id = *next;
-        if id >= LIMIT {
-            return Err(Error::OutOfNumbers);
-        }
-        let (first, behind, held) = split_table(&rest, TABLE_TARGET);
-        *next = id + 1;
-        tables.push(write_table(alloc, store, id, made_at, &first, held)?)?;
-        rest = behind;
-    }
-    Ok(tables)
-}
-
 /// Writes tables that hold these entries, made at this moment, under the ids from `next` on, one after the other: of
 /// their files one at a time is in memory, made of the entries where they stand. No entries: no tables. The cost is linear
 /// in the bytes.
@@ -125,18 +88,23 @@ pub fn write_tables<S: Store>(
     ensures tables { IfOk result (λ tables. HoldEntries made_at entries.now next.old next.new tables.items) }
     ensures rises { next.old ≤ next.new }
     ensures draws { next.new ≤ next.old + length entries.now }
-    // What a crash leaves.
     ensures on_disk { S.tells → IfOk result (λ tables. AreOnDisk (S.world store.new) tables.items) }
-    ensures keeps { S.tells → KeepsElsewhere next.old (S.world store.old) (S.world store.new) }
-    ensures any_moment { S.tells → LeavesOnly (S.world store.old) (S.world store.new) (IsKeptElsewhere next.old (S.world store.old)) }
-    ensures stored { S.tells → KeepsStored next.old (S.world store.old) (S.world store.new) }
-    // Names that are none of the tree's are as they were.
-    ensures passes { S.tells → Passes (S.world store.old) (S.world store.new) }
-    // Refusals.
-    ensures out_of_numbers { IsErrOf result Error.OutOfNumbers → LIMIT ≤ next.new }
-    ensures only { IfErr result (λ e. ((e ≡ Error.OutOfMemory) ⊎ (e ≡ Error.Store)) ⊎ (e ≡ Error.OutOfNumbers)) }
-    ensures counts { CountsFaults (S.world store.old) (S.world store.new) result }
+    ensures files { S.tells → WritesFrom next.old (S.world store.old) (S.world store.new) }
+    ensures refuses { RefusesWriting result next.new (S.world store.old) (S.world store.new) }
 {
     names_are_apart();
-    write_each(alloc, store, next, made_at, entries)
+    cut_tables_are_runs();
+    let mut tables = Vec::new(alloc);
+    let mut rest = entries.copy();
+    while !rest.is_empty() {
+        let id = *next;
+        if id >= LIMIT {
+            return Err(Error::OutOfNumbers);
+        }
+        let (first, behind, held) = split_table(&rest, TABLE_TARGET);
+        *next = id + 1;
+        tables.push(write_table(alloc, store, id, made_at, &first, held)?)?;
+        rest = behind;
+    }
+    Ok(tables)
 }

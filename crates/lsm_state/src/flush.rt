@@ -1,9 +1,8 @@
 // The calls of a flush, up to its tables.
-ghost use Rattle.std.specs.Prelude.{◌≡◌, ◌⊎◌, ◌+◌, ◌≤◌, ◌++◌, None, length, reverse, IfOk, IfErr, IsErrOf};
-ghost use Rattle.lsm_tables.specs.Cutting.{IsWritable};
+ghost use Rattle.std.specs.Prelude.{◌≡◌, ◌+◌, ◌≤◌, ◌++◌, None, length, reverse, IfOk};
 ghost use Rattle.lsm_versions.specs.Levels.{all_of, HasOwnIds};
-ghost use Rattle.lsm_commit.specs.Stored.{AreOnDisk, CountsFaults};
-ghost use Rattle.lsm_commit.specs.Writing.{HoldEntries};
+ghost use Rattle.lsm_commit.specs.Stored.{AreOnDisk};
+ghost use Rattle.lsm_commit.specs.Writing.{HoldEntries, RefusesWriting};
 ghost use Rattle.lsm_state.specs.Commits.{Upholds};
 ghost use Rattle.lsm_state.specs.Deeds.{IsNoDeed};
 ghost use Rattle.lsm_state.specs.Flushes.{Begins, WritesTables, with_next_table, noted_in, spent, spent_in};
@@ -15,7 +14,7 @@ use lsm_commit::{crashes_leave_versions, write_tables};
 use lsm_flush::{FlushJob, MergedFlush, OpenFlush, WrittenFlush};
 use lsm_parts::{Error, LIMIT, SealedMemtables};
 use lsm_store::Store;
-use lsm_tables::{Entries, Table};
+use lsm_tables::Table;
 use lsm_versions::copies;
 use std::alloc::{AllocError, Global};
 
@@ -83,38 +82,6 @@ impl<S: Store> TreeState<S> {
         Ok(Some(FlushJob::new(self.alloc, number, memtables)))
     }
 
-    /// Writes tables that hold these entries, made at the tree's moment, under the next ids.
-    ///
-    /// # Errors
-    ///
-    /// `OutOfMemory`, `Store`, and `OutOfNumbers` where the next id is 2^63 or more. Ids may then be used.
-    fn write_next(&mut self, entries: &Entries<'_>) -> Result<Vec<Table>, Error>
-        requires writable { IsWritable entries.now }
-        requires certain { self.old.core.lost ≡ None }
-        ensures tables { IfOk result (λ tables. HoldEntries self.old.core.moment entries.now self.old.core.next_table self.new.core.next_table tables.items) }
-        ensures own_ids { IfOk result (λ tables. HasOwnIds (tables.items ++ all_of self.old.core.history.latest.version.levels)) }
-        ensures rises { self.old.core.next_table ≤ self.new.core.next_table }
-        ensures draws { self.new.core.next_table ≤ self.old.core.next_table + length entries.now }
-        ensures core { self.new.core ≡ with_next_table self.new.core.next_table self.old.core }
-        ensures upholds { S.tells → Upholds (S.world self.old.store) (S.world self.new.store) self.old.core self.new.core }
-        ensures on_disk { S.tells → IfOk result (λ tables. AreOnDisk (S.world self.new.store) tables.items) }
-        ensures out_of_numbers { IsErrOf result Error.OutOfNumbers → LIMIT ≤ self.new.core.next_table }
-        ensures only { IfErr result (λ e. ((e ≡ Error.OutOfMemory) ⊎ (e ≡ Error.Store)) ⊎ (e ≡ Error.OutOfNumbers)) }
-        ensures counts { CountsFaults (S.world self.old.store) (S.world self.new.store) result }
-    {
-        crashes_leave_versions(&self.store);
-        if entries.is_empty() {
-            return Ok(Vec::new(self.alloc));
-        }
-        let mut next = self.next_table.get();
-        if next >= LIMIT {
-            return Err(Error::OutOfNumbers);
-        }
-        let written = write_tables(self.alloc, &mut self.store, &mut next, self.moment, entries);
-        self.next_table.set(next);
-        written
-    }
-
     /// Writes tables that hold what a job kept, made at the tree's moment, under the next ids.
     ///
     /// # Errors
@@ -129,16 +96,30 @@ impl<S: Store> TreeState<S> {
         ensures core { self.new.core ≡ with_next_table self.new.core.next_table self.old.core }
         ensures upholds { S.tells → Upholds (S.world self.old.store) (S.world self.new.store) self.old.core self.new.core }
         ensures on_disk { S.tells → IfOk result (λ tables. AreOnDisk (S.world self.new.store) tables.items) }
-        ensures out_of_numbers { IsErrOf result Error.OutOfNumbers → LIMIT ≤ self.new.core.next_table }
-        ensures only { IfErr result (λ e. ((e ≡ Error.OutOfMemory) ⊎ (e ≡ Error.Store)) ⊎ (e ≡ Error.OutOfNumbers)) }
-        ensures counts { CountsFaults (S.world self.old.store) (S.world self.new.store) result }
+        ensures refuses { RefusesWriting result self.new.core.next_table (S.world self.old.store) (S.world self.new.store) }
     {
         job.facts();
         crashes_leave_versions(&self.store);
         let Ok(parts) = job.parts() else {
             return Err(Error::OutOfMemory);
         };
-        self.write_next(&parts.entries())
+        let entries = parts.entries();
+        if entries.is_empty() {
+            return Ok(Vec::new(self.alloc));
+        }
+        let mut next = self.next_table.get();
+        if next >= LIMIT {
+            return Err(Error::OutOfNumbers);
+        }
+        let written = write_tables(
+            self.alloc,
+            &mut self.store,
+            &mut next,
+            self.moment,
+            &entries,
+        );
+        self.next_table.set(next);
+        written
     }
 
     /// Writes the tables of a job that was merged, one after the other, and syncs them: of their files one at a time is

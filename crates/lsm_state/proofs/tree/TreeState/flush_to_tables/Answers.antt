@@ -48,7 +48,7 @@ returns-in-Err-clause-files g c =
     let w = g.S.Store.world in
     let mid = c.write_kept.new.self in
     let behind = c.remove_drawn.ensures in
-    let did = write_causes (w c.args.self.now.store) (w mid.store) c.write_kept.result c.write_kept.ensures.only c.write_kept.ensures.counts in
+    let did = write_causes (w c.args.self.now.store) (w mid.store) c.write_kept.result c.write_kept.ensures.refuses.only c.write_kept.ensures.refuses.counts in
     record {
       causes = search rules;
       refused = λ tells small. removes_drawn w c.get-first.result c.args.self.now mid c.remove_drawn.new.self (c.get-first.ensures ∙ ap (λ t. t.core.next_table) c.self.view_is) behind.core did.rises (behind.gone tells) small;
@@ -68,7 +68,7 @@ returns-in_default-clause-files g c =
     let w = g.S.Store.world in
     let mid = c.write_kept.new.self in
     let behind = c.remove_drawn-in_default.ensures in
-    let did = write_causes (w c.args.self.now.store) (w mid.store) c.write_kept.result c.write_kept.ensures.only c.write_kept.ensures.counts in
+    let did = write_causes (w c.args.self.now.store) (w mid.store) c.write_kept.result c.write_kept.ensures.refuses.only c.write_kept.ensures.refuses.counts in
     record {
       causes = search rules;
       refused = λ tells small. removes_drawn w c.get-first.result c.args.self.now mid c.remove_drawn-in_default.new.self (c.get-first.ensures ∙ ap (λ t. t.core.next_table) c.self.view_is) behind.core did.rises (behind.gone tells) small;

@@ -16,6 +16,6 @@ returns-clause-upholds g c tells =
     let lt : i.next_table < 2 ^ 64 - 1 = search (rules, arith) in
     subst (λ t. Upholds (w t.store) (w made.new.store) t.core new) c.self.view_is
     (record {
-      files = written_upholds (w i.store) (w made.new.store) old new certain refl refl refl c.self.invariant.1 lt (subst (λ n. KeepsStored n (w i.store) (w made.new.store)) c.get-next.ensures (made.ensures.stored tells));
-      passes = made.ensures.passes tells;
+      files = written_upholds (w i.store) (w made.new.store) old new certain refl refl refl c.self.invariant.1 lt (subst (λ n. KeepsStored n (w i.store) (w made.new.store)) c.get-next.ensures (made.ensures.files tells).stored);
+      passes = (made.ensures.files tells).passes;
     })

@@ -1,9 +1,9 @@
-use Rattle.std.proofs.Common.{◌+◌, ◌≤◌, length}
+use Rattle.std.proofs.Common.{◌≡◌, ◌+◌, ◌≤◌, length}
 use Rattle.lsm_commit.specs.declared.tables.TheConstants.{TABLE_TARGET}
 use Rattle.lsm_commit.specs.Stored.{AreOnDisk}
-use Rattle.lsm_commit.proofs.NextFiles.{KeepsFiles}
+use Rattle.lsm_commit.specs.Writing.{WritesFrom}
 use Rattle.lsm_commit.proofs.Tabled.{IsUnderway}
-use Rattle.lsm_commit.proofs.tables.write_each.Given as goal
+use Rattle.lsm_commit.proofs.tables.write_tables.Given as goal
 
 abbrev pub invariant-loop-rest : goal.invariant-loop-rest
 invariant-loop-rest g l =
@@ -12,7 +12,8 @@ invariant-loop-rest g l =
       written : IsUnderway TABLE_TARGET l.made_at l.fn.next l.next l.entries l.tables.items l.rest;
       on_disk : g.S.Store.tells → AreOnDisk (w l.store) l.tables.items;
       draws : l.next + length l.rest ≤ l.fn.next + length l.entries;
-      files : KeepsFiles g.S.Store.tells l.fn.next (w l.fn.store) (w l.store);
+      files : g.S.Store.tells → WritesFrom l.fn.next (w l.fn.store) (w l.store);
+      failures : (w l.store).failures ≡ (w l.fn.store).failures;
     }
 
 abbrev pub decreases-loop-rest : goal.decreases-loop-rest
