@@ -1,5 +1,5 @@
 -- The inputs of a merge that is begun are tables of the latest version, in which an id stands once.
-use Rattle.std.proofs.Common.{◌≡◌, ◌⊎◌, ⊎_elim, ℕ, true, false, eqb, eq-eqb, List, [], ◌∷◌, Option, Some, None, IsSome, Result, Ok, Err, map, refl, sym, ap, ◌∙◌, subst}
+use Rattle.std.proofs.Common.{◌≡◌, ⊎_elim, ℕ, true, false, eqb, eq-eqb, List, [], ◌∷◌, Option, Some, None, IsSome, Result, Ok, Err, map, refl, sym, ap, ◌∙◌, subst}
 use Rattle.std.specs.List.{AllByRecursion, IsDistinct}
 use Rattle.lsm_below.specs.Members.{IsIn, in_filter}
 use Rattle.lsm_below.specs.Optimizes.{tables_of}

@@ -1,9 +1,7 @@
 // How a compaction begins.
-ghost use Rattle.std.specs.Prelude.{◌≡◌, ◌<◌, [], None, IfOk, IfErr, OnOk};
+ghost use Rattle.std.specs.Prelude.{◌≡◌, ◌<◌, [], None, IfOk, IfErr};
 ghost use Rattle.lsm_checks.specs.Choices.{first_reason_of, AreThere, IsMovable};
 ghost use Rattle.lsm_pick.specs.declared.choice.Choice.TheVariants.{DoNothing, Move, Merge};
-ghost use Rattle.lsm_commit.specs.Causes.{HasCause, Blames};
-ghost use Rattle.lsm_state.specs.Cleaning.{LeavesNoFiles};
 ghost use Rattle.lsm_state.specs.Commits.{Upholds};
 ghost use Rattle.lsm_state.specs.Settling.{MaySettle, HasItsTables};
 ghost use Rattle.lsm_state.specs.Compactions.{hidden_in, levels_of, reason_of, IsPossible, IsMovedTo, IsDroppedFrom, IsNotMoved, IsNotDropped, InstallsChoice, OpensMerge, Does, BeginsChoice, BeginsCompaction, MayAnswer, error_of, InstallsOrRests};
@@ -108,9 +106,7 @@ impl<S: Store> TreeState<S> {
         requires possible { IsPossible (Move input.now) self.old.core }
         ensures installs { InstallsChoice (IsMovedTo input.now self.old.core.history.latest.version) (IsNotMoved input.now self.old.core.history.latest.version) options.mvcc_gc_watermark result self.old.core self.new.core }
         ensures upholds { S.tells → Upholds (S.world self.old.store) (S.world self.new.store) self.old.core self.new.core }
-        ensures causes { HasCause (Blames result) (S.world self.old.store) (S.world self.new.store) }
-        ensures gone { S.tells → OnOk result (LeavesNoFiles (S.world self.new.store) self.old.core.history self.new.core.history) }
-        ensures rests { IfOk result (λ b. InstallsOrRests b self.old.store self.new.store) }
+        ensures files { BeginsFiles result S.tells S.world self.old self.new }
     {
         self.is_upheld();
         if self.seqno.get() >= LIMIT {
@@ -133,9 +129,7 @@ impl<S: Store> TreeState<S> {
         requires there { AreThere (levels_of self.old.core) ids.now.keys }
         ensures installs { InstallsChoice (IsDroppedFrom ids.now.keys self.old.core.history.latest.version) (IsNotDropped ids.now.keys self.old.core.history.latest.version) options.mvcc_gc_watermark result self.old.core self.new.core }
         ensures upholds { S.tells → Upholds (S.world self.old.store) (S.world self.new.store) self.old.core self.new.core }
-        ensures causes { HasCause (Blames result) (S.world self.old.store) (S.world self.new.store) }
-        ensures gone { S.tells → OnOk result (LeavesNoFiles (S.world self.new.store) self.old.core.history self.new.core.history) }
-        ensures rests { IfOk result (λ b. InstallsOrRests b self.old.store self.new.store) }
+        ensures files { BeginsFiles result S.tells S.world self.old self.new }
     {
         self.is_upheld();
         if self.seqno.get() >= LIMIT {
@@ -188,9 +182,7 @@ impl<S: Store> TreeState<S> {
         requires possible { IsPossible choice self.old.core }
         ensures does { Does choice options result self.old.core self.new.core }
         ensures upholds { S.tells → Upholds (S.world self.old.store) (S.world self.new.store) self.old.core self.new.core }
-        ensures causes { HasCause (Blames result) (S.world self.old.store) (S.world self.new.store) }
-        ensures gone { S.tells → result ≡ Ok Begun.Installed → LeavesNoFiles (S.world self.new.store) self.old.core.history self.new.core.history }
-        ensures rests { IfOk result (λ b. InstallsOrRests b self.old.store self.new.store) }
+        ensures files { BeginsFiles result S.tells S.world self.old self.new }
     {
         self.is_upheld();
         match choice {

@@ -8,7 +8,7 @@ ghost use Rattle.lsm_commit.specs.Contents.{AreWritten, FilesAreTables};
 ghost use Rattle.lsm_compaction.specs.OpenMerges.{IsOpenIn};
 ghost use Rattle.lsm_versions.specs.Refusals.{IsRefusedFor};
 ghost use Rattle.lsm_commit.specs.Causes.{HasCause, Blames};
-ghost use Rattle.lsm_state.specs.Cleaning.{LeavesNoFiles, RemovesRefused};
+ghost use Rattle.lsm_state.specs.Cleaning.{LeavesNoFiles};
 ghost use Rattle.lsm_state.specs.Commits.{Upholds};
 ghost use Rattle.lsm_state.specs.Flushes.{with_next_table};
 ghost use Rattle.lsm_state.specs.Deeds.{IsNoDeed};
@@ -172,10 +172,7 @@ impl<S: Store> TreeState<S> {
         ensures installs { InstallsMerge merged.now.job result self.old.core self.new.core }
         ensures done { IfOk result (λ f. f ≡ Finished.Installed) }
         ensures upholds { S.tells → Upholds (S.world self.old.store) (S.world self.new.store) self.old.core self.new.core }
-        ensures causes { HasCause (Blames result) (S.world self.old.store) (S.world self.new.store) }
-        ensures gone { S.tells → OnOk result (LeavesNoFiles (S.world self.new.store) self.old.core.history self.new.core.history) }
-        ensures rests { IfOk result (λ f. EndsOrRests f self.old.store self.new.store) }
-        ensures refused { S.tells → RemovesRefused result self.old.core self.new.core (S.world self.old.store) (S.world self.new.store) }
+        ensures files { FinishesFiles result S.tells S.world self.old self.new }
     {
         let first = self.next_table.get();
         match self.install_written(merged) {
@@ -263,14 +260,16 @@ impl<S: Store> TreeState<S> {
         // As the theories see it: the merge and its maintenance, or one of unknown outcome, else nothing.
         ensures deeds { MergeDeeds merged.job result self.old.core self.new.core }
     {
-        compactions_are_deeds();
-        self.facts();
-        self.finish_spent(merged, false)
+        self.finish_with(merged, false)
     }
 
-    /// As `finish_compaction`, of a merge whose inputs are known to be tables of this tree: no entries are compared.
-    pub(crate) fn finish_own(&mut self, merged: MergedCompaction) -> Result<Finished, Error>
-        requires { HasOwnInputs merged.job self.old.core }
+    /// `finish_compaction`. Where the inputs are known to be tables of this tree, no entries are compared.
+    pub(crate) fn finish_with(
+        &mut self,
+        merged: MergedCompaction,
+        own: bool,
+    ) -> Result<Finished, Error>
+        requires { own ≡ true → HasOwnInputs merged.job self.old.core }
         ensures finishes { Finishes merged.job result self.old.core self.new.core }
         ensures upholds { S.tells → Upholds (S.world self.old.store) (S.world self.new.store) self.old.core self.new.core }
         ensures files { FinishesFiles result S.tells S.world self.old self.new }
@@ -278,6 +277,6 @@ impl<S: Store> TreeState<S> {
     {
         compactions_are_deeds();
         self.facts();
-        self.finish_spent(merged, true)
+        self.finish_spent(merged, own)
     }
 }

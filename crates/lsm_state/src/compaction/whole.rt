@@ -28,7 +28,7 @@ impl<S: Store> TreeState<S> {
                 return Err(error);
             }
         };
-        match self.finish_own(merged) {
+        match self.finish_with(merged, true) {
             Ok(Finished::Installed) => Ok(Begun::Installed),
             Ok(Finished::Declined(why)) => Ok(Begun::Declined(why)),
             Err(error) => Err(error),

@@ -5,8 +5,8 @@ use Rattle.lsm_state.specs.OwnInputs.{HasOwnInputs}
 use Rattle.lsm_state.proofs.Wholes.{spending_draws}
 use Rattle.lsm_state.proofs.tree.TreeState.complete.Goals as goal
 
-pub finish_own-requires : goal.finish_own-requires
-finish_own-requires g c = subst (λ (job : SeenCompaction). HasOwnInputs job c.args.self.now.core) (sym c.in-Ok.ensures.job) c.requires
+pub finish_with-requires : goal.finish_with-requires
+finish_with-requires g c own = subst (λ (job : SeenCompaction). HasOwnInputs job c.args.self.now.core) (sym c.in-Ok.ensures.job) c.requires
 
 pub returns-in-Err-clause-files : goal.returns-in-Err-clause-files
 returns-in-Err-clause-files g c =

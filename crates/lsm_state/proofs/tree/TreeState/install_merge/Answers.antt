@@ -1,4 +1,4 @@
-use Rattle.std.proofs.Common.{Err, inl, ap, sym, subst, ◌∙◌}
+use Rattle.std.proofs.Common.{Err, inl, ap, sym, subst, ◌∙◌, rules}
 use Rattle.lsm_commit.specs.Causes.{causes_then}
 use Rattle.lsm_state.specs.Core.{versions_left}
 use Rattle.lsm_state.specs.Compactions.{InstallsMerge}
@@ -18,8 +18,11 @@ returns-in-Err g c =
       installs = subst (InstallsMerge c.args.merged.now.job (Err c.in-Err.error) old.core) (sym behind.core) did.installs;
       done = tt;
       upholds = λ tells. upholds_join (w old.store) (w mid.store) (w new.store) old.core mid.core new.core (ap versions_left behind.core) (did.upholds tells) (behind.upholds tells);
-      causes = causes_then _ ⊥ _ (w old.store) (w mid.store) (w new.store) did.causes behind.causes (λ blamed. inl blamed);
-      gone = λ tells. tt;
-      rests = tt;
-      refused = λ tells small known before. removes_drawn w c.get-first.result old mid new (c.get-first.ensures ∙ ap (λ t. t.core.next_table) c.self.view_is) behind.core did.causes.rises (behind.gone tells) small;
+      files = record {
+        causes = causes_then _ ⊥ _ (w old.store) (w mid.store) (w new.store) did.causes behind.causes (λ blamed. inl blamed);
+        gone = search rules;
+        rests = tt;
+        refused = λ tells small known before. removes_drawn w c.get-first.result old mid new (c.get-first.ensures ∙ ap (λ t. t.core.next_table) c.self.view_is) behind.core did.causes.rises (behind.gone tells) small;
+        no_call = search rules;
+      };
     }
