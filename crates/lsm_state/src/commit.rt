@@ -1,8 +1,6 @@
 // How a super version becomes the latest one, and what is cleaned up after it.
 ghost use Rattle.std.specs.Prelude.{◌≡◌, ◌≤◌, ◌<◌, ◌⊎◌, length, None, Some, IfSome, is_some, true, false, IsErrOf};
 ghost use Rattle.lsm_versions.specs.Levels.{all_of};
-ghost use Rattle.lsm_manifest.specs.Spelling.{IsFileFrom};
-ghost use Rattle.lsm_manifest.specs.Versions.{file_of, named_levels};
 ghost use Rattle.lsm_commit.specs.Stored.{AreOnDisk, CountsFaults};
 ghost use Rattle.lsm_commit.specs.Foreign.{Passes};
 ghost use Rattle.lsm_parts.specs.History.{versions_of};
@@ -91,43 +89,16 @@ impl<S: Store> TreeState<S> {
         ensures counts { CountsFaults (S.world self.old.store) (S.world self.new.store) result }
     {
         crashes_leave_versions(&self.store);
-        if self.seqno.get() >= LIMIT {
+        let number = self.seqno.get();
+        if number >= LIMIT {
             return Err(Error::OutOfNumbers);
         }
         // All growths come before the number is drawn, that of the version's file too.
         let file = encode_version(self.alloc, &next.version)?;
-        self.commit_encoded(next, &file, room)
-    }
-
-    /// `commit`, of a version whose file has these bytes.
-    fn commit_encoded(
-        &mut self,
-        next: SuperVersion,
-        file: &[u8],
-        room: Option<Room>,
-    ) -> Result<(), Error>
-        requires number { next.seqno ≡ self.old.core.seqno }
-        requires small { self.old.core.seqno < LIMIT }
-        requires later { self.old.core.history.latest.version.id < next.version.id }
-        requires certain { self.old.core.lost ≡ None }
-        requires room { IfSome room (λ r. length self.old.core.memtables ≤ r) }
-        requires fresh { IfSome room (λ _. self.old.core.next_memtable < LIMIT) }
-        requires ids { KeepsIds (fresh_in (is_some room) self.old.core).memtables (record { latest = next; older = versions_of self.old.core.history }) (fresh_in (is_some room) self.old.core).next_memtable }
-        requires tables { KeepsTables self.old.core.flush (record { latest = next; older = versions_of self.old.core.history }) self.old.core.next_table }
-        requires spelling { file.now ≡ file_of next.version }
-        requires reads { IsFileFrom (Some next.version.log_from) (named_levels next.version.levels) file.now }
-        ensures commits { Commits (is_some room) next result self.old.core self.new.core }
-        ensures memory { IsErrOf result Error.OutOfMemory → (self.new ≡ self.old) ⊎ (self.new.core ≡ counted self.old.core) }
-        ensures upholds { S.tells → AreOnDisk (S.world self.old.store) (all_of next.version.levels) → UpholdsFiles (S.world self.old.store) (S.world self.new.store) self.old.core self.new.core }
-        ensures passes { S.tells → Passes (S.world self.old.store) (S.world self.new.store) }
-        ensures counts { CountsFaults (S.world self.old.store) (S.world self.new.store) result }
-    {
-        crashes_leave_versions(&self.store);
-        let number = self.seqno.get();
         self.history.append_version(next)?;
         self.seqno.set(number + 1);
         let version = &self.history.latest_version().version;
-        match commit_version(&mut self.store, version, file) {
+        match commit_version(&mut self.store, version, &file) {
             Ok(()) => {
                 self.visible_seqno.fetch_max(number + 1);
                 let next = &mut self.next_memtable;
