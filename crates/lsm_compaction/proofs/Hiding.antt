@@ -8,7 +8,7 @@ use Rattle.std.proofs.lemmas.List.Folds.{list_any-append}
 use Rattle.std.proofs.lemmas.Map.Keys.{IsDistinct-push}
 use Rattle.std.specs.Cmp.{nat_eq_equiv}
 use Rattle.std.proofs.Math.Seq.{drop-cons}
-use Rattle.lsm_below.specs.Each.{each_filter}
+use Rattle.lsm_below.specs.Each.{each_append, each_filter}
 use Rattle.lsm_below.specs.Members.{IsIn, each_in}
 use Rattle.lsm_below.specs.Optimizes.{EachPair}
 use Rattle.lsm_model.specs.Steps.{among}
@@ -47,13 +47,9 @@ found_place n ms (Some i) h = (h.0, h.1)
 
 -- ---- one more
 
-push_each : {A : Type 0} (P : A → Type 0) (xs : List A) (x : A) → AllByRecursion P xs → P x → AllByRecursion P (xs ++ x ∷ [])
-push_each P [] x h p = (p, tt)
-push_each P (y ∷ xs) x h p = (h.0, push_each P xs x h.1 p)
-
 push_pairs : {A : Type 0} (R : A → A → Type 0) (xs : List A) (x : A) → EachPair R xs → AllByRecursion (λ y. R y x) xs → EachPair R (xs ++ x ∷ [])
 push_pairs R [] x h p = (tt, tt)
-push_pairs R (y ∷ xs) x h p = (push_each (R y) xs x h.0 p.0, push_pairs R xs x h.1 p.1)
+push_pairs R (y ∷ xs) x h p = (each_append (R y) xs (x ∷ []) h.0 (p.0, tt), push_pairs R xs x h.1 p.1)
 
 -- a merge of tables that aren't hidden shares none with those that are open
 new_apart : (ms : List SeenOpenMerge) (m : SeenOpenMerge) → ((i : ℕ) → among m.ids i ≡ true → hides ms i ≡ false) → AllByRecursion (λ n. ShareNoTable n m) ms

@@ -21,6 +21,7 @@ use Rattle.lsm_iter.specs.Trims.{counts}
 use Rattle.lsm_below.specs.Slots.{firsts}
 use Rattle.lsm_below.specs.Orders.{below_less, le_less, less_le}
 use Rattle.lsm_below.specs.Each.{each_weaker}
+use Rattle.lsm_below.specs.FilterLaws.{filter_none}
 use Rattle.lsm_iter.specs.Sound.{IsSound}
 use Rattle.lsm_iter.proofs.Disjoint.{left_in}
 
@@ -62,10 +63,6 @@ and_no false b h = refl
 
 -- ---- lists
 
-none_pass : {X : Type 0} (p : X → Bool) (xs : List X) → AllByRecursion (λ x. p x ≡ false) xs → filter p xs ≡ []
-none_pass p [] h = refl
-none_pass p (x ∷ xs) h = ap (λ b. cond b (x ∷ filter p xs) (filter p xs)) h.0 ∙ none_pass p xs h.1
-
 flat_none : {X A : Type 0} (f : X → List A) (xs : List X) → All (λ x. f x ≡ []) xs → flat_map f xs ≡ []
 flat_none f [] h = refl
 flat_none f (x ∷ xs) h = ap (λ l. l ++ flat_map f xs) (All-head (λ x. f x ≡ []) x xs h) ∙ flat_none f xs (All-tail (λ x. f x ≡ []) x xs h)
@@ -103,7 +100,7 @@ module _ (low high : Bound Bytes) (s : ℕ) where
         | inr late ↦ and_no (is_from low e.key.user_key) (is_to high e.key.user_key) (late_outside high r e.key.user_key ends.0 late)
       ] in
       ap (λ l. firsts (filter (counts s) l))
-      (none_pass (λ e. is_from low e.key.user_key && is_to high e.key.user_key) t.entries
+      (filter_none (λ e. is_from low e.key.user_key && is_to high e.key.user_key) t.entries
       (each_weaker (λ e. in_range e.key.user_key r ≡ true) (λ e. (is_from low e.key.user_key && is_to high e.key.user_key) ≡ false) outside t.entries sound.covered))
 
   pub none_touched : (ts : List SeenTable) → All IsSound ts → filter (λ t. is_touched low high (range_of t.entries)) ts ≡ [] → flat_map (left_in low high s) ts ≡ []

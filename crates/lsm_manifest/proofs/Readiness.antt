@@ -8,6 +8,7 @@ use Rattle.lsm_store.specs.Moments.{same_or_not}
 use Rattle.lsm_tables.specs.Spellings.{ok_is}
 use Rattle.lsm_tables.specs.Sum.{sum_of}
 use Rattle.lsm_versions.specs.Levels.{Levels as SeenLevels, empty_levels}
+use Rattle.lsm_below.specs.Each.{each_weaker}
 use Rattle.lsm_manifest.specs.declared.recovered_table.RecoveredTable.{RecoveredTable}
 use Rattle.lsm_manifest.specs.declared.fault.Fault.{Fault}
 use Rattle.lsm_manifest.specs.declared.fault.Fault.TheVariants.{CurrentHeader}
@@ -26,11 +27,11 @@ use Rattle.lsm_manifest.proofs.Unread.{unread}
 
 -- ---- what `current` names
 
-abbrev content : Option (List ℕ) → List ℕ
+abbrev pub content : Option (List ℕ) → List ℕ
 content (Some bytes) = bytes
 content None = []
 
-names_one : (a b : Image) (i j : ℕ) (ls ms : Levels) → b current_name ≡ a current_name → IsNamed a i ls → IsNamed b j ms → i ≡ j
+pub names_one : (a b : Image) (i j : ℕ) (ls ms : Levels) → b current_name ≡ a current_name → IsNamed a i ls → IsNamed b j ms → i ≡ j
 names_one a b i j ls ms same x y =
     let e : Some (current i (sum_of x.bytes)) ≡ Some (current j (sum_of y.bytes)) = sym x.current ∙ sym same ∙ y.current in
     let c : current i (sum_of x.bytes) ≡ current j (sum_of y.bytes) = ap content e in
@@ -95,10 +96,6 @@ tables_there : (image : Image) (ls : Levels) (ts : SeenLevels) → AreTablesAt i
 tables_there image =
     each_first _ _ (λ l us. each_first _ _ (λ r vs. each_first (IsTableAt image) (λ t. IsSome (image (table_name t.id))) (λ t u at. subst (λ (o : Option (List ℕ)). IsSome o) (sym at.file) refl) r vs) l us)
 
-each_is : {A : Type 0} (P Q : A → Type 0) → ((x : A) → P x → Q x) → (xs : List A) → AllByRecursion P xs → AllByRecursion Q xs
-each_is P Q f [] all = tt
-each_is P Q f (x ∷ xs) all = (f x all.0, each_is P Q f xs all.1)
-
 module _ (w : World) (ready : IsReady w) (one : IsImage w.may w.gives) where
   pub ready_names : BringsGoodNames w
   ready_names = record {
@@ -151,7 +148,7 @@ module _ (w : World) (ready : IsReady w) (one : IsImage w.may w.gives) where
     ready_keeps = record {
       current = never_current;
       version = never_version;
-      tables = each_is _ _ (λ l. each_is _ _ (λ r. each_is _ _ (λ t not may. some_not_none _ (not may) (changed_here w.gives (table_name t.id) None)) r) l) ls
+      tables = each_weaker _ _ (λ l. each_weaker _ _ (λ r. each_weaker _ _ (λ t not may. some_not_none _ (not may) (changed_here w.gives (table_name t.id) None)) r) l) ls
           (levels_self (λ i t. IsSome (changed w.gives (table_name i) None (table_name t.id))) (λ i. w.may (table_name i) None) ls still_there);
     }
 
@@ -162,7 +159,7 @@ module _ (first : ImagesAreFirst) (w : World) (ts : SeenLevels) (settled : IsSet
   settled_agrees image at = record {
     current = settled.current (image current_name) (at current_name);
     version = λ id ls named. (settled.named id ls named).version (image (version_name id)) (at (version_name id));
-    tables = λ id ls named. each_is _ _ (λ l. each_is _ _ (λ r. each_is _ _ (λ t fixed. fixed (image (table_name t.id)) (at (table_name t.id))) r) l) ls (settled.named id ls named).tables;
+    tables = λ id ls named. each_weaker _ _ (λ l. each_weaker _ _ (λ r. each_weaker _ _ (λ t fixed. fixed (image (table_name t.id)) (at (table_name t.id))) r) l) ls (settled.named id ls named).tables;
     no_version = settled.no_version (image (codes "version")) (at (codes "version")) ∙ sym (good_names w.gives ts found).no_version;
     in_tables = λ n bad. settled.in_tables n (image n) bad (at n) ∙ sym ((good_names w.gives ts found).in_tables n bad);
   }

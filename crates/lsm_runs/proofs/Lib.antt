@@ -36,7 +36,6 @@ pub mod Uses
 pub mod Chains
 pub mod Notes
 pub mod Made
-pub mod Naming
 pub mod Readiness
 pub mod Moments
 pub mod ReadFiles

@@ -1,12 +1,17 @@
 -- Stores that opening takes, in a step and between two.
-use Rattle.std.proofs.Common.{◌≡◌, ◌⊎◌, ⊎_elim, inl, inr, arith, List, ◌++◌, Option, Some, None, option_to_list, is_some, refl, sym, ap, ◌∙◌, subst}
+use Rattle.std.proofs.Common.{◌≡◌, ◌⊎◌, ⊎_elim, inl, inr, ℕ, arith, List, ◌++◌, Option, Some, None, option_to_list, is_some, refl, sym, ap, ◌∙◌, subst}
 use Rattle.std.specs.List.{AllByRecursion}
 use Rattle.lsm_below.specs.Members.{IsIn, each_in}
 use Rattle.lsm_store.specs.World.{Image, World, IsImage}
+use Rattle.lsm_tables.specs.Sum.{sum_of}
 use Rattle.lsm_versions.specs.Levels.{SeenVersion}
+use Rattle.lsm_manifest.specs.Names.{current_name}
+use Rattle.lsm_manifest.specs.Spelling.{current}
+use Rattle.lsm_manifest.specs.Recovery.{Levels, IsNamed}
 use Rattle.lsm_manifest.specs.Versions.{named_levels}
 use Rattle.lsm_manifest.specs.Finding.{Finds, Named, FoundOnce}
 use Rattle.lsm_manifest.specs.Ready.{IsReady}
+use Rattle.lsm_manifest.proofs.Readiness.{names_one}
 use Rattle.lsm_commit.specs.Stored.{IsStored, HoldsOneOf}
 use Rattle.lsm_commit.specs.Opening.{StoredIsReady}
 use Rattle.lsm_state.specs.Core.{Core, versions_left, written_of}
@@ -18,7 +23,6 @@ use Rattle.lsm_runs.specs.Files.{AreApart}
 use Rattle.lsm_runs.specs.Moments.{StaysReady}
 use Rattle.lsm_runs.proofs.Made.{MakesOne}
 use Rattle.lsm_runs.proofs.Members.{in_either}
-use Rattle.lsm_runs.proofs.Naming.{names_one, names_some}
 
 -- one of which a crash leaves less
 pub less_ready : (old new : World) → ((image : Image) → IsImage new.may image → IsImage old.may image) → IsReady old → IsReady new
@@ -38,6 +42,10 @@ stored_stays_ready world ready only store c stored =
     (here, λ cut ends. less_ready (world store) (world cut) (λ image may. only store image (ends.each image may)) here)
 
 -- ---- versions with ids of their own
+
+-- what names a version is there
+names_some : (image : Image) (i : ℕ) (ls : Levels) → IsNamed image i ls → image current_name ≡ None → ⊥
+names_some image i ls named gone = let bad : Some (current i (sum_of named.bytes)) ≡ None = sym named.current ∙ gone in absurd (cc bad)
 
 -- a store is ready of which a crash leaves one of them
 pub holding_ready : FoundOnce → (versions : List SeenVersion) → AreApart versions → (w : World) → ((image : Image) → IsImage w.may image → HoldsOneOf versions image) → IsReady w

@@ -1,11 +1,9 @@
 -- The tables into which a list is cut are a run.
-use Rattle.std.proofs.Common.{◌≡◌, ℕ, ◌<◌, true, false, List, [], ◌∷◌, ◌++◌, length, flat_map, refl, arith}
+use Rattle.std.proofs.Common.{◌≡◌, ◌<◌, true, false, List, [], ◌∷◌, ◌++◌, length, flat_map, arith}
 use Rattle.std.specs.List.{AllByRecursion}
-use Rattle.std.specs.Ordering.{nat_cmp, ordering_then, is_lt, is_eq}
-use Rattle.std.specs.declared.cmp.Ordering.{Ordering}
-use Rattle.std.specs.declared.cmp.Ordering.TheVariants.{Less, Equal, Greater}
-use Rattle.std.proofs.lemmas.List.Elements.{All-from_recursion, recursion_from_All}
-use Rattle.lsm_below.specs.Keys.{Bytes, bytes_cmp, is_below}
+use Rattle.std.specs.declared.cmp.Ordering.TheVariants.{Less}
+use Rattle.std.proofs.lemmas.List.Elements.{recursion_from_All}
+use Rattle.lsm_below.specs.Keys.{Bytes, is_below}
 use Rattle.lsm_below.specs.Entries.{Entry, entry_cmp}
 use Rattle.lsm_below.specs.Laws.{KeysAreOrdered, EntriesAreOrdered}
 use Rattle.lsm_below.specs.Slots.{same_key}
@@ -13,20 +11,11 @@ use Rattle.lsm_below.specs.Sorted.{Rises}
 use Rattle.lsm_below.specs.Runs.{IsRun}
 use Rattle.lsm_below.specs.Optimizes.{EachPair}
 use Rattle.lsm_below.specs.Each.{each_left, each_right, each_both, each_weaker}
+use Rattle.lsm_below.proofs.EntryKeys.{below_strictly}
 use Rattle.lsm_tables.specs.Cutting.{IsApart}
 use Rattle.lsm_tables.specs.Tables.{first_key, last_key, range_of}
 use Rattle.lsm_tables.proofs.Covering.{is_range}
-use Rattle.lsm_tables.proofs.Cutting.{rises_right}
-
--- an entry before one of another key has the lower key
-below_by : (a b : Bytes) (n m : ℕ) (r : Ordering) → ordering_then r (nat_cmp n m) ≡ Less → is_eq r ≡ false → is_lt r ≡ true
-below_by a b n m Less h s = refl
-below_by a b n m Equal h s = absurd (cc s)
-below_by a b n m Greater h s = absurd (cc h)
-
-key_below : (x y : Entry) → entry_cmp x y ≡ Less → same_key x y ≡ false → is_below x.key.user_key y.key.user_key ≡ true
-unfolding is_below
-key_below x y h s = below_by x.key.user_key y.key.user_key y.key.seqno x.key.seqno (bytes_cmp x.key.user_key y.key.user_key) h s
+use Rattle.lsm_tables.proofs.Cutting.{rises_left, rises_right}
 
 abbrev AllBefore : List Entry → List Entry → Type 0
 AllBefore xs ys = AllByRecursion (λ x. AllByRecursion (λ y. entry_cmp x y ≡ Less) ys) xs
@@ -35,10 +24,6 @@ AllBefore xs ys = AllByRecursion (λ x. AllByRecursion (λ y. entry_cmp x y ≡ 
 before_rest : (xs ys : List Entry) → Rises entry_cmp (xs ++ ys) → AllBefore xs ys
 before_rest [] ys h = tt
 before_rest (x ∷ xs) ys h = (each_right (λ y. entry_cmp x y ≡ Less) xs ys (recursion_from_All (λ y. entry_cmp x y ≡ Less) (xs ++ ys) h.0), before_rest xs ys h.1)
-
-rises_left : (xs ys : List Entry) → Rises entry_cmp (xs ++ ys) → Rises entry_cmp xs
-rises_left [] ys h = tt
-rises_left (x ∷ xs) ys h = (All-from_recursion (λ y. entry_cmp x y ≡ Less) xs (each_left (λ y. entry_cmp x y ≡ Less) xs ys (recursion_from_All (λ y. entry_cmp x y ≡ Less) (xs ++ ys) h.0)), rises_left xs ys h.1)
 
 -- what holds of each key holds of the last one
 at_last : (P : Bytes → Type 0) (es : List Entry) → 0 < length es → AllByRecursion (λ e. P e.key.user_key) es → P (last_key es)
@@ -50,7 +35,7 @@ ends_before : (t u : List Entry) → 0 < length t → 0 < length u → AllBefore
 ends_before t [] some any c a = absurd (omega arith)
 ends_before t (f ∷ us) some any c a =
     at_last (λ k. is_below k f.key.user_key ≡ true) t some
-    (each_both (λ x. AllByRecursion (λ y. entry_cmp x y ≡ Less) (f ∷ us)) (λ x. same_key x f ≡ false) (λ x. is_below x.key.user_key f.key.user_key ≡ true) (λ x l s. key_below x f l.0 s) t c a.0)
+    (each_both (λ x. AllByRecursion (λ y. entry_cmp x y ≡ Less) (f ∷ us)) (λ x. same_key x f ≡ false) (λ x. is_below x.key.user_key f.key.user_key ≡ true) (λ x l s. below_strictly x f l.0 s) t c a.0)
 
 before_each : (t : List Entry) (ts : List (List Entry)) → 0 < length t → AllBefore t (flat_map (λ u. u) ts) → AllByRecursion (IsApart t) ts → AllByRecursion (λ u. 0 < length u) ts → AllByRecursion (λ u. is_below (last_key t) (first_key u) ≡ true) ts
 before_each t [] some c a s = tt

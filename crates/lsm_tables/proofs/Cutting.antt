@@ -24,7 +24,7 @@ use Rattle.lsm_below.specs.Each.{each_append, each_left, each_right, each_weaker
 
 -- ---- parts of entries that rise
 
-rises_left : (xs ys : List Entry) → Rises entry_cmp (xs ++ ys) → Rises entry_cmp xs
+pub rises_left : (xs ys : List Entry) → Rises entry_cmp (xs ++ ys) → Rises entry_cmp xs
 rises_left [] ys h = tt
 rises_left (x ∷ xs) ys h =
     let P = λ (y : Entry). entry_cmp x y ≡ Less in
