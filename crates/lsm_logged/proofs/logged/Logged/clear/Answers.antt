@@ -9,34 +9,31 @@ use Rattle.lsm_logged.proofs.ClearActs.{refused_acts, cleared_acts, unsure_acts}
 use Rattle.lsm_logged.proofs.Known.{LeavesLogged, known_still, leaves_removed, all_left, gone_left}
 use Rattle.lsm_logged.proofs.Seen.{logged_with}
 use Rattle.lsm_logged.proofs.logged.Logged.clear.Given.{Over}
+use Rattle.lsm_logged.proofs.logged.Logged.clear.Goals.{After-remove_passed}
 use Rattle.lsm_logged.proofs.logged.Logged.clear.Goals as goal
 
--- what is left where the records were removed, and where they weren't
-module _ (g : Over) (c : goal.In-Ok g) (tells : g.S.Store.tells) where
-  left_ok : LeavesLogged g.S.Store.world c.args.self.now c.remove_passed.new.self
-  left_ok = leaves_removed g.S.Store.world c.self.inside.tree c.clear.new.self c.self.inside.numbers.items c.self.inside.doubted c.remove_passed.new.self c.args.self.now c.self.view_is (c.clear.ensures.upholds tells) c.remove_passed.ensures.core (c.remove_passed.ensures.upholds tells) c.remove_passed.result (c.remove_passed.ensures.removes tells) (c.remove_passed.ensures.known tells)
-
-module _ (g : Over) (c : goal.In-Err g) (tells : g.S.Store.tells) where
-  left_err : LeavesLogged g.S.Store.world c.args.self.now c.remove_passed.new.self
-  left_err = leaves_removed g.S.Store.world c.self.inside.tree c.clear.new.self c.self.inside.numbers.items c.self.inside.doubted c.remove_passed.new.self c.args.self.now c.self.view_is (c.clear.ensures.upholds tells) c.remove_passed.ensures.core (c.remove_passed.ensures.upholds tells) c.remove_passed.result (c.remove_passed.ensures.removes tells) (c.remove_passed.ensures.known tells)
+-- what is left once the records were to be removed
+module _ (g : Over) (c : After-remove_passed g) (tells : g.S.Store.tells) where
+  left : LeavesLogged g.S.Store.world c.args.self.now c.remove_passed.new.self
+  left = leaves_removed g.S.Store.world c.self.inside.tree c.clear.new.self c.self.inside.numbers.items c.self.inside.doubted c.remove_passed.new.self c.args.self.now c.self.view_is (c.clear.ensures.upholds tells) c.remove_passed.ensures.core (c.remove_passed.ensures.upholds tells) c.remove_passed.result (c.remove_passed.ensures.removes tells) (c.remove_passed.ensures.known tells)
 
 pub returns-in-Ok-clause-passes : goal.returns-in-Ok-clause-passes
-returns-in-Ok-clause-passes g c tells = (left_ok g c tells).left.passed
+returns-in-Ok-clause-passes g c tells = (left g (goal.at.returns-in-Ok-clause-passes g c).After-remove_passed tells).left.passed
 
 pub returns-in-Ok-clause-behind : goal.returns-in-Ok-clause-behind
-returns-in-Ok-clause-behind g c tells = (left_ok g c tells).left.either
+returns-in-Ok-clause-behind g c tells = (left g (goal.at.returns-in-Ok-clause-behind g c).After-remove_passed tells).left.either
 
 pub returns-in-Ok-clause-upholds : goal.returns-in-Ok-clause-upholds
-returns-in-Ok-clause-upholds g c tells = (left_ok g c tells).left.files
+returns-in-Ok-clause-upholds g c tells = (left g (goal.at.returns-in-Ok-clause-upholds g c).After-remove_passed tells).left.files
 
 pub returns-in-Err-clause-passes : goal.returns-in-Err-clause-passes
-returns-in-Err-clause-passes g c tells = (left_err g c tells).left.passed
+returns-in-Err-clause-passes g c tells = (left g (goal.at.returns-in-Err-clause-passes g c).After-remove_passed tells).left.passed
 
 pub returns-in-Err-clause-behind : goal.returns-in-Err-clause-behind
-returns-in-Err-clause-behind g c tells = (left_err g c tells).left.either
+returns-in-Err-clause-behind g c tells = (left g (goal.at.returns-in-Err-clause-behind g c).After-remove_passed tells).left.either
 
 pub returns-in-Err-clause-upholds : goal.returns-in-Err-clause-upholds
-returns-in-Err-clause-upholds g c tells = (left_err g c tells).left.files
+returns-in-Err-clause-upholds g c tells = (left g (goal.at.returns-in-Err-clause-upholds g c).After-remove_passed tells).left.files
 
 pub returns-then-is_uncertain-clause-acts : goal.returns-then-is_uncertain-clause-acts
 returns-then-is_uncertain-clause-acts g c tells =
@@ -64,19 +61,19 @@ pub returns-in-Ok-clause-acts : goal.returns-in-Ok-clause-acts
 returns-in-Ok-clause-acts g c tells =
     cleared_acts g.S.Store.world c.self.inside.tree c.clear.new.self c.self.inside.numbers.items c.self.inside.doubted c.remove_passed.new.self c.args.self.now c.self.view_is c.plain_numbers_are_read.ensures (sym c.is_uncertain.ensures ∙ c.if-is_uncertain.false) c.remove_passed.ensures.doubted c.counter_fits.ensures
     c.in_ok-number.number c.in_ok-number.ensures.clears c.in_ok-number.ensures.deeds c.remove_passed.ensures.core
-    (left_ok g c tells)
+    (left g (goal.at.returns-in-Ok-clause-acts g c).After-remove_passed tells)
 
 pub returns-in-Err-clause-acts : goal.returns-in-Err-clause-acts
 returns-in-Err-clause-acts g c tells =
     cleared_acts g.S.Store.world c.self.inside.tree c.clear.new.self c.self.inside.numbers.items c.self.inside.doubted c.remove_passed.new.self c.args.self.now c.self.view_is c.plain_numbers_are_read.ensures (sym c.is_uncertain.ensures ∙ c.if-is_uncertain.false) c.remove_passed.ensures.doubted c.counter_fits.ensures
     c.in_ok-number.number c.in_ok-number.ensures.clears c.in_ok-number.ensures.deeds c.remove_passed.ensures.core
-    (left_err g c tells)
+    (left g (goal.at.returns-in-Err-clause-acts g c).After-remove_passed tells)
 
 pub returns-in-Ok-clause-known : goal.returns-in-Ok-clause-known
-returns-in-Ok-clause-known g c tells = (left_ok g c tells).known
+returns-in-Ok-clause-known g c tells = (left g (goal.at.returns-in-Ok-clause-known g c).After-remove_passed tells).known
 
 pub returns-in-Err-clause-known : goal.returns-in-Err-clause-known
-returns-in-Err-clause-known g c tells = (left_err g c tells).known
+returns-in-Err-clause-known g c tells = (left g (goal.at.returns-in-Err-clause-known g c).After-remove_passed tells).known
 
 pub returns-in-Ok-clause-passed_are_gone : goal.returns-in-Ok-clause-passed_are_gone
 returns-in-Ok-clause-passed_are_gone g c tells =
