@@ -1,5 +1,5 @@
 -- What compactions leave of reads, beside what they tell.
-use Rattle.std.proofs.Common.{◌≡◌, ⊎_elim, Option, None, Some, IsSome, ℕ, ◌≤◌, true, false, cond, ltb, List, [], ◌∷◌, ◌++◌, refl, sym, ap, ◌∙◌, subst, append_assoc, append-nil, fold, Result, Ok, Err, IsErrOf, arith}
+use Rattle.std.proofs.Common.{◌≡◌, ⊎_elim, Option, None, Some, IsSome, ℕ, ◌≤◌, true, false, cond, ltb, List, [], ◌∷◌, ◌++◌, refl, sym, ap, ◌∙◌, subst, append_assoc, append-nil, Result, Ok, Err, IsErrOf, arith}
 use Rattle.std.proofs.lemmas.Grind.{fold-append}
 use Rattle.lsm_below.specs.declared.error.Error.{Error}
 use Rattle.lsm_below.specs.declared.error.Error.TheVariants.{OutOfMemory, Unrecoverable, CommitUnknown, AfterCommit}
@@ -7,7 +7,7 @@ use Rattle.lsm_model.specs.Soundness.{Soundness}
 use Rattle.lsm_model.specs.Journal.{Event, InOrder, is_kept, kept_after}
 use Rattle.lsm_model.specs.Steps.{Marked, StaysAt}
 use Rattle.lsm_model.specs.Sound.{Holds}
-use Rattle.lsm_model.specs.declared.journal.JournalEntry.TheVariants.{Mark, Install, Write, Clear, Dropped, Read}
+use Rattle.lsm_model.specs.declared.journal.JournalEntry.TheVariants.{Mark}
 use Rattle.lsm_versions.specs.Levels.{SeenVersion}
 use Rattle.lsm_checks.specs.declared.choice.Why.{Why}
 use Rattle.lsm_checks.specs.declared.choice.Why.TheVariants.{UnknownJob}
@@ -25,33 +25,13 @@ use Rattle.lsm_state.specs.CompactionDeeds.{MergeDeeds, IsMarkedIn}
 use Rattle.lsm_state.specs.CompactionReads.{SparesReads, IsAny, AreSparedBy, IsAnySnapshot, TellsMerge, TellsChoice, CompactionsKeepReads}
 use Rattle.lsm_state.specs.Deeds.{IsNoDeed}
 use Rattle.lsm_state.specs.WholeCompactions.{told_end, Follows}
+use Rattle.lsm_state.proofs.CompactionDeeds.{still_marked}
 use Rattle.lsm_state.proofs.Wholes.{same_job}
 use Rattle.lsm_journal.specs.Noted.{BeginsAnswer, EndsNoted, TellsBehind, CompactsNoted, CompactsAnswer}
 use Rattle.lsm_journal.specs.NotedReads.{IsMarkedFor, NotedCompactionsKeepReads}
 use Rattle.lsm_journal.proofs.Compacting.{IsOpened, job_begun}
 
 -- ---- marks
-
--- what isn't kept stays so
-never_kept : (s : ℕ) (more : List Event) → fold (kept_after s) false more ≡ false
-never_kept s [] = refl
-never_kept s (Mark w ∷ more) = elim (ltb s w) as (λ b. fold (kept_after s) (cond b false false) more ≡ false) [ true ↦ never_kept s more | false ↦ never_kept s more ]
-never_kept s (Write e ∷ more) = never_kept s more
-never_kept s (Clear n ∷ more) = never_kept s more
-never_kept s (Install n ∷ more) = never_kept s more
-never_kept s (Dropped ranges n ∷ more) = never_kept s more
-never_kept s (Read at question answer ∷ more) = never_kept s more
-
--- what is kept was kept before
-kept_before : (s : ℕ) (journal more : List Event) → is_kept s (journal ++ more) ≡ true → is_kept s journal ≡ true
-kept_before s journal more h =
-    elim (is_kept s journal) as (λ b. is_kept s journal ≡ b → b ≡ true) [
-      | true ↦ λ e. refl
-      | false ↦ λ e. absurd (cc (sym (never_kept s more) ∙ (ap (λ b. fold (kept_after s) b more) (sym e) ∙ (sym (fold-append (kept_after s) true journal more) ∙ h))))
-    ] refl
-
-lasts : (w : ℕ) (journal more : List Event) → IsMarkedIn w journal → IsMarkedIn w (journal ++ more)
-lasts w journal more marked s kept = marked s (kept_before s journal more kept)
 
 mark_last : (w : ℕ) (journal : List Event) → IsMarkedIn w (journal ++ Mark w ∷ [])
 mark_last w journal s kept =
@@ -62,7 +42,7 @@ mark_last w journal s kept =
     ] refl is
 
 marked : (w : ℕ) (journal more : List Event) → IsMarkedIn w (journal ++ Mark w ∷ more)
-marked w journal more = subst (IsMarkedIn w) (append_assoc journal (Mark w ∷ []) more) (lasts w (journal ++ Mark w ∷ []) more (mark_last w journal))
+marked w journal more = subst (IsMarkedIn w) (append_assoc journal (Mark w ∷ []) more) (still_marked w (journal ++ Mark w ∷ []) more (mark_last w journal))
 
 -- ---- jobs
 
@@ -237,5 +217,5 @@ module _ (theory : Soundness) (laws : CompactionsKeepReads) where
     silent = silent;
     marks = job_marks;
     marked = marked;
-    lasts = lasts;
+    lasts = still_marked;
   }

@@ -1,33 +1,20 @@
 -- A batch comes in order under a number that is past all, where no key comes twice and each that it removes weakly was set once at most.
-use Rattle.std.proofs.Common.{◌≡◌, ℕ, ◌+◌, ◌≤◌, max, false, cond, ◌&&◌, List, [], ◌∷◌, ◌++◌, map, fold, refl, sym, ap, ◌∙◌, subst, arith}
+use Rattle.std.proofs.Common.{◌≡◌, ℕ, ◌+◌, ◌≤◌, max, false, cond, ◌&&◌, List, [], ◌∷◌, ◌++◌, map, refl, sym, ap, ◌∙◌, subst, arith}
 use Rattle.std.specs.List.{AllByRecursion}
 use Rattle.std.proofs.lemmas.Grind.{fold-append}
 use Rattle.lsm_below.specs.Each.{each_both}
 use Rattle.lsm_below.specs.Entries.{Entry, above, stack, values, is_value}
 use Rattle.lsm_below.specs.Keys.{Bytes, is_same}
 use Rattle.lsm_below.specs.Orders.{same_swap}
-use Rattle.lsm_model.specs.Journal.{Event, InOrder, InOrderFrom, MayWrite, next_number, next_number_after, next_of, next_after, floor, floor_after, sets_of, sets_after}
+use Rattle.lsm_model.specs.Journal.{Event, InOrder, InOrderFrom, MayWrite, next_number, next_of, next_after, floor, floor_after, sets_of, sets_after}
 use Rattle.lsm_model.specs.Ops.{op_entry, op_entries}
 use Rattle.lsm_model.specs.Views.{EachPair}
 use Rattle.lsm_model.specs.declared.op.Op.{Op}
 use Rattle.lsm_model.specs.declared.op.Op.TheVariants.{Set, Del, Weak}
-use Rattle.lsm_model.specs.declared.journal.JournalEntry.TheVariants.{Write, Clear, Install, Dropped, Mark, Read}
-use Rattle.lsm_model.proofs.Journals.{next_of-le}
+use Rattle.lsm_model.specs.declared.journal.JournalEntry.TheVariants.{Write}
+use Rattle.lsm_model.proofs.Journals.{next_of-le, floor-le}
 use Rattle.lsm_log_model.proofs.Orders.{order_join}
 use Rattle.lsm_log_runs.specs.Trying.{IsOverOne}
-
--- an install or a clear is below the next number
-floor-le : (opened : List Entry) (journal : List Event) → floor journal ≤ next_number opened journal
-floor-le opened journal = steps 0 (above opened) journal (omega arith)
-  where
-    steps : (n m : ℕ) (journal : List Event) → n ≤ m → fold floor_after n journal ≤ fold next_number_after m journal
-    steps n m [] h = h
-    steps n m (Write e ∷ journal) h = steps n (max m (e.key.seqno + 1)) journal (omega arith)
-    steps n m (Clear k ∷ journal) h = steps (max n k) (max m (k + 1)) journal (omega arith)
-    steps n m (Install k ∷ journal) h = steps (max n k) (max m (k + 1)) journal (omega arith)
-    steps n m (Dropped ranges k ∷ journal) h = steps n m journal h
-    steps n m (Mark w ∷ journal) h = steps n m journal h
-    steps n m (Read at question told ∷ journal) h = steps n m journal h
 
 module _ (opened : List Entry) (n : ℕ) where
   -- a write that may come

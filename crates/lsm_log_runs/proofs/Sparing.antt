@@ -1,5 +1,5 @@
 -- Acts leave what a snapshot sees, but for what they write, clear or drop below it.
-use Rattle.std.proofs.Common.{◌≡◌, ℕ, ◌≤◌, Bool, true, false, cond, List, [], ◌∷◌, ◌++◌, map, Some, append-nil, append_assoc, refl, sym, ap, ap₂, ◌∙◌, subst, ltb, eqb}
+use Rattle.std.proofs.Common.{◌≡◌, ℕ, ◌≤◌, Bool, true, false, List, [], ◌∷◌, ◌++◌, map, Some, append-nil, append_assoc, refl, sym, ap, ap₂, ◌∙◌, subst}
 use Rattle.std.specs.List.{AllByRecursion}
 use Rattle.lsm_below.specs.Each.{each_left, each_right}
 use Rattle.lsm_below.specs.Entries.{Entry}
@@ -8,13 +8,15 @@ use Rattle.lsm_model.specs.Beginnings.{told_lost}
 use Rattle.lsm_model.specs.Sound.{Holds}
 use Rattle.lsm_model.specs.Soundness.{Soundness}
 use Rattle.lsm_model.specs.Steps.{State, history, among, Action, Wrote, Rotated, Flushed, Merged, Moved, DroppedTables, Cleared, Marked, LostDrop, Asked, Maintained, Step, StaysAt, IsSparedBy}
-use Rattle.lsm_model.specs.Views.{SuperVersion, found_at, front, lookup, ranges_of}
+use Rattle.lsm_model.specs.Views.{SuperVersion, found_at, ranges_of}
 use Rattle.lsm_model.specs.declared.journal.JournalEntry.TheVariants.{Write, Clear, Install, Dropped, Mark}
+use Rattle.lsm_model.proofs.DeedReads.{found_behind}
 use Rattle.lsm_log_model.specs.Records.{entries_of}
 use Rattle.lsm_log_model.specs.Logs.{Logged as Log, Act, Batched, BatchLost, Did, CommitLost, Acts, AllActs}
 use Rattle.lsm_log_model.proofs.Growth.{acts_order}
 use Rattle.lsm_log_model.proofs.Writes.{deeds_run, run_journal}
 use Rattle.lsm_state.specs.Core.{Core, state_of}
+use Rattle.lsm_runs.proofs.FlushReplays.{other_found}
 use Rattle.lsm_log_runs.specs.Leading.{SparesAnswers}
 use Rattle.lsm_log_runs.specs.Pasts.{LogPast}
 
@@ -45,27 +47,9 @@ ForgetLast (act ∷ next ∷ acts) = IsSteady act × ForgetLast (next ∷ acts)
 
 -- ---- what is found
 
-behind_first : (s : ℕ) (first latest : SuperVersion) (older : List SuperVersion) (sv : SuperVersion) → found_at s latest older ≡ Some sv → (there : SuperVersion) × (found_at s first (latest ∷ older) ≡ Some there)
-behind_first s first latest older sv f =
-    elim (eqb s 0) as (λ b. cond b (Some (front latest older)) (lookup s (latest ∷ older)) ≡ Some sv → (there : SuperVersion) × (cond b (Some (front first (latest ∷ older))) (lookup s (first ∷ (latest ∷ older))) ≡ Some there)) [
-      | true ↦ λ q. (front latest older, refl)
-      | false ↦ λ q. elim (ltb first.number s) as (λ c. (there : SuperVersion) × (cond c (Some first) (lookup s (latest ∷ older)) ≡ Some there)) [ true ↦ (first, refl) | false ↦ (sv, q) ]
-    ] f
-
--- another latest one of the same number
-renewed : (s : ℕ) (latest again : SuperVersion) (older : List SuperVersion) (sv : SuperVersion) → again.number ≡ latest.number → found_at s latest older ≡ Some sv → (there : SuperVersion) × (found_at s again older ≡ Some there)
-renewed s latest again older sv same f =
-    elim (eqb s 0) as (λ b. cond b (Some (front latest older)) (lookup s (latest ∷ older)) ≡ Some sv → (there : SuperVersion) × (cond b (Some (front again older)) (lookup s (again ∷ older)) ≡ Some there)) [
-      | true ↦ λ q. (front again older, refl)
-      | false ↦ λ q. elim (ltb latest.number s) as (λ c. ltb again.number s ≡ c → cond c (Some latest) (lookup s older) ≡ Some sv → (there : SuperVersion) × (cond (ltb again.number s) (Some again) (lookup s older) ≡ Some there)) [
-        | true ↦ λ h r. (again, ap (λ c. cond c (Some again) (lookup s older)) h)
-        | false ↦ λ h r. (sv, ap (λ c. cond c (Some again) (lookup s older)) h ∙ r)
-      ] (ap (λ n. ltb n s) same) q
-    ] f
-
 put_first : (old new : State) → new.older ≡ history old → FindsOn old new
 put_first old new older s sv f =
-    let there = behind_first s new.latest old.latest old.older sv f in
+    let there = found_behind s new.latest old.latest old.older sv f in
     (there.0, ap (found_at s new.latest) older ∙ there.1)
 
 still_there : (old new : State) → new.latest ≡ old.latest → new.older ≡ old.older → FindsOn old new
@@ -74,7 +58,7 @@ still_there old new latest older s sv f = (sv, ap₂ (found_at s) latest older �
 pub found_on : (opened : List Entry) (old : State) (action : Action) (new : State) → is_steady action ≡ true → Step opened old action new → FindsOn old new
 found_on opened old (Wrote e) new steady m = still_there old new m.latest m.older
 found_on opened old (Rotated a) new steady m = λ s sv f.
-    let r = renewed s old.latest (record { number = old.latest.number; active = a; sealed = old.latest.active ∷ old.latest.sealed; tables = old.latest.tables }) old.older sv refl f in
+    let r = other_found s old.latest (record { number = old.latest.number; active = a; sealed = old.latest.active ∷ old.latest.sealed; tables = old.latest.tables }) old.older sv refl f in
     (r.0, ap (λ (t : State). found_at s t.latest t.older) m.1 ∙ r.1)
 found_on opened old (Flushed w job made) new steady m = put_first old new m.commit.older
 found_on opened old (Merged w d ids evict made) new steady m = put_first old new m.commit.older

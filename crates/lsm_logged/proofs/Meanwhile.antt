@@ -21,6 +21,7 @@ use Rattle.lsm_manifest.specs.Ready.{IsReady, KeepsNamed, IsOldOrRead, OpeningLe
 use Rattle.lsm_manifest.specs.Recovery.{IsNamed}
 use Rattle.lsm_manifest.specs.Spelling.{ids_of}
 use Rattle.lsm_manifest.specs.Versions.{named_levels, file_of, first_version}
+use Rattle.lsm_manifest.proofs.Recovering.{named_so}
 use Rattle.lsm_manifest.proofs.Apart.{version_kind}
 use Rattle.lsm_manifest.proofs.Pins.{current_stays, version_stays}
 use Rattle.lsm_manifest.proofs.Readiness.{never_current}
@@ -39,7 +40,7 @@ use Rattle.lsm_logged.specs.Removing.{IsOldOrPassed, HasOldOrPassed}
 use Rattle.lsm_logged.proofs.LogNames.{none_below, folder_foreign, refused_begins, refused_is_foreign, not_in_log}
 use Rattle.lsm_logged.proofs.Removals.{both_leave}
 use Rattle.lsm_logged.proofs.Reopening.{fresh_in, found_in}
-use Rattle.lsm_logged.proofs.Versions.{named, version_is_one}
+use Rattle.lsm_logged.proofs.Versions.{version_is_one}
 
 pub each_of : {A : Type 0} (P : A → Type 0) → ((x : A) → P x) → (xs : List A) → AllByRecursion P xs
 each_of P f [] = tt
@@ -366,7 +367,7 @@ module _ {S : Type 0} (world : S → World) (once : FoundOnce) (unread : UnreadN
 
   moment : (left : S) → LeavesStanding (world store) (world left) → LeavesOnly (world store) (world left) (ReadsAsBefore (world store))
   moment left leaves =
-      files_moment once unread plain (world store) one ready v reads good (world left) (λ from. keeps_named store v.id from.layout ready (named (world store).gives v.id from.from from.layout from.named)) leaves (opening left leaves).meanwhile
+      files_moment once unread plain (world store) one ready v reads good (world left) (λ from. keeps_named store v.id from.layout ready (named_so (world store).gives v.id from.from from.layout from.named)) leaves (opening left leaves).meanwhile
 
   -- the tree's files are opened, or refused
   pub files_left : (left : S) → LeavesStanding (world store) (world left) → LeavesAsBefore (world store) (world left)

@@ -19,7 +19,7 @@ use Rattle.lsm_state.specs.Deeds.{saved_of, HasOrder, IsNoDeed, IsMarkDeed, AreD
 use Rattle.lsm_state.specs.Settling.{IsInstalled}
 use Rattle.lsm_state.specs.Compactions.{closed, InstallsMerge, IsMergedInto, Ends, EndsFor, Finishes}
 use Rattle.lsm_state.specs.CompactionDeeds.{AreLostTelling, IsMarkedIn, merge_of, IsMergeDeed, IsLostMerge}
-use Rattle.lsm_state.proofs.FlushDeeds.{marked}
+use Rattle.lsm_model.proofs.Journals.{marked}
 use Rattle.lsm_logged.specs.Removing.{log_from_of}
 use Rattle.lsm_logged.proofs.Compacted.{Stays, stays_same}
 use Rattle.lsm_logged.proofs.RegisterActs.{was_certain}

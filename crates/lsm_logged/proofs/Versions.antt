@@ -7,19 +7,17 @@ use Rattle.lsm_manifest.specs.Finding.{Finds, Named, FoundOnce}
 use Rattle.lsm_manifest.specs.Names.{current_name, version_name}
 use Rattle.lsm_manifest.specs.Opening.{ReadsFrom}
 use Rattle.lsm_manifest.specs.Reading.{told_at}
-use Rattle.lsm_manifest.specs.Recovery.{Levels, IsNamed, IsNamedFrom}
+use Rattle.lsm_manifest.specs.Recovery.{Levels}
 use Rattle.lsm_manifest.specs.Versions.{log_from_in, named_levels}
 use Rattle.lsm_commit.specs.Stored.{HoldsOneOf}
 use Rattle.lsm_logged.specs.Meanwhile.{ReadsVersion}
 use Rattle.lsm_manifest.proofs.OpeningLemmas.{named_once}
+use Rattle.lsm_manifest.proofs.Recovering.{named_so}
 use Rattle.lsm_manifest.proofs.Whole.{told_again}
-
-pub named : (image : Image) (id : ℕ) (from : Option ℕ) (ls : Levels) → IsNamedFrom image id from ls → IsNamed image id ls
-named image id from ls is = record { id_fits = is.id_fits; bytes = is.bytes; current = is.current; version = is.version; reads = record { from = from; file = is.reads } }
 
 pub from_once : (image : Image) (u v : SeenVersion) → ReadsFrom image u → ReadsFrom image v → u.levels ≡ v.levels → u.log_from ≡ v.log_from
 from_once image u v a b same =
-    let id : u.id ≡ v.id = (named_once image u.id v.id a.layout b.layout (named image u.id a.from a.layout a.named) (named image v.id b.from b.layout b.named)).0 in
+    let id : u.id ≡ v.id = (named_once image u.id v.id a.layout b.layout (named_so image u.id a.from a.layout a.named) (named_so image v.id b.from b.layout b.named)).0 in
     let files : Some a.named.bytes ≡ Some b.named.bytes = sym a.named.version ∙ ap (λ i. image (version_name i)) id ∙ b.named.version in
     let bytes : a.named.bytes ≡ b.named.bytes = cc files in
     let told = ok_is (a.from, a.layout) (b.from, b.layout) (sym (told_again a.from a.layout a.named.bytes a.named.reads) ∙ ap told_at bytes ∙ told_again b.from b.layout b.named.bytes b.named.reads) in
@@ -41,7 +39,7 @@ version_is_one once image u v a b = by_current (image current_name) refl
   where
     named_one : ReadsFrom image u → ReadsFrom image v → u.levels ≡ v.levels → u ≡ v
     named_one x y same =
-        let id : u.id ≡ v.id = (named_once image u.id v.id x.layout y.layout (named image u.id x.from x.layout x.named) (named image v.id y.from y.layout y.named)).0 in
+        let id : u.id ≡ v.id = (named_once image u.id v.id x.layout y.layout (named_so image u.id x.from x.layout x.named) (named_so image v.id y.from y.layout y.named)).0 in
         let from : u.log_from ≡ v.log_from = from_once image u v x y same in
         ap (λ i. made i u.log_from u.levels) id ∙ (ap (λ f. made v.id f u.levels) from ∙ ap (made v.id v.log_from) same)
 

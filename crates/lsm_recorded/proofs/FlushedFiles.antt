@@ -4,14 +4,14 @@ use Rattle.lsm_below.specs.Members.{IsIn}
 use Rattle.lsm_store.specs.World.{World}
 use Rattle.lsm_store.specs.Moments.{weakened}
 use Rattle.lsm_versions.specs.Levels.{SeenVersion}
-use Rattle.lsm_commit.specs.Stored.{IsStored, HoldsOneOf}
+use Rattle.lsm_commit.specs.Stored.{HoldsOneOf}
 use Rattle.lsm_commit.specs.Foreign.{AtRest}
 use Rattle.lsm_model.specs.Views.{SuperVersion, front, lookup, found_at}
-use Rattle.lsm_flush.specs.Jobs.{SeenOpen}
 use Rattle.lsm_state.specs.Calls.{Rotates}
-use Rattle.lsm_state.specs.Core.{Core, versions_left, written_by, written_of, latest_of, older_of, rotated_core}
+use Rattle.lsm_state.specs.Core.{Core, versions_left, written_of, latest_of, older_of, rotated_core}
 use Rattle.lsm_state.specs.Commits.{Upholds}
-use Rattle.lsm_state.specs.Flushes.{spent, spent_in}
+use Rattle.lsm_state.specs.Flushes.{spent}
+use Rattle.lsm_state.proofs.Writing.{stored_spent}
 use Rattle.lsm_recorded.specs.Recorded.{Stays}
 
 in_front : (v : SeenVersion) (xs ys : List SeenVersion) → IsIn v xs → IsIn v (xs ++ ys)
@@ -29,14 +29,6 @@ pub same_upholds : (w v : World) (old new : Core) → AtRest w → v ≡ w → n
 same_upholds w v old new leaves same is = subst (λ u. Upholds w u old new) (sym same) (subst (Upholds w w old) (sym is) (still_upholds w old leaves))
 
 -- a job is spent
-stored_spent : (w : World) (vs : List SeenVersion) (n : ℕ) (flush : Option SeenOpen) → IsStored w vs (written_by flush) → IsStored w vs (written_by (spent_in n flush))
-stored_spent w vs n None s = s
-stored_spent w vs n (Some f) s = by_case (eqb f.number n)
-  where
-    by_case : (b : Bool) → IsStored w vs (written_by (cond b None (Some f)))
-    by_case true = record { current = s.current; whole = s.whole; written = tt; no_version = s.no_version; in_tables = s.in_tables }
-    by_case false = s
-
 pub spent_upholds : (w v : World) (n : ℕ) (old new : Core) → AtRest w → v ≡ w → new ≡ spent n old → Upholds w v old new
 spent_upholds w v n old new leaves same is =
     subst (λ u. Upholds w u old new) (sym same)

@@ -18,11 +18,12 @@ use Rattle.lsm_below.specs.Keys.{Bytes, bytes_cmp, is_same}
 use Rattle.lsm_below.specs.Entries.{Entry, stack, values, above, is_value, is_weak, is_value_kind, is_weak_kind}
 use Rattle.lsm_below.specs.declared.value_type.ValueType.{ValueType}
 use Rattle.lsm_below.specs.declared.value_type.ValueType.TheVariants.{Value, Tombstone, WeakTombstone}
-use Rattle.lsm_model.specs.Journal.{Event, next_after, next_of, sets_after, sets_of, floor_after, floor, next_number_after, next_number, MayCome, MayWrite, InOrder, InOrderFrom}
+use Rattle.lsm_model.specs.Journal.{Event, next_after, next_of, sets_after, sets_of, floor_after, floor, next_number_after, next_number, MayWrite, InOrder}
 use Rattle.lsm_model.specs.declared.journal.JournalEntry.TheVariants.{Write, Read}
 use Rattle.lsm_model.specs.declared.question.Question.{Question}
 use Rattle.lsm_model.specs.declared.question.Answer.{Answer}
 use Rattle.lsm_model.specs.Ops.{repeats}
+use Rattle.lsm_model.proofs.Journals.{in_order_push}
 use Rattle.lsm_recorded.specs.declared.marks.Mark.{Mark}
 use Rattle.lsm_recorded.specs.Headed.{headed_cmp}
 use Rattle.lsm_recorded.specs.Marks.{mark_of, marked, marked_by, marked_all, no_mark, next_mark, mark_in, kind_allows, mark_allows, entry_allowed, mark_tells_order}
@@ -60,13 +61,6 @@ mark_set old new k m q e =
 -- a mark that is set to what it was
 pub marked_same : (marks new : BTreeMap Bytes Mark) (k k' : Bytes) (m : Mark) → k' ≡ k → m ≡ mark_of marks k → (q : Bytes) → mark_of new q ≡ marked (mark_of marks) k' m q → mark_of new q ≡ mark_of marks q
 marked_same marks new k k' m key is q e = e ∙ ap (λ z. marked (mark_of marks) z m q) key ∙ (elim (is_same q k) as (λ b. is_same q k ≡ b → cond b m (mark_of marks q) ≡ mark_of marks q) [ true ↦ λ z. is ∙ ap (mark_of marks) (sym (same_key q k z)) | false ↦ λ z. refl ] refl)
-
-in_order_push_from : (opened : List Entry) (before journal : List Event) (x : Event) → InOrderFrom opened before journal → MayCome opened (before ++ journal) x → InOrderFrom opened before (journal ++ x ∷ [])
-in_order_push_from opened before [] x h m = (subst (λ js. MayCome opened js x) (append-nil before) m, tt)
-in_order_push_from opened before (y ∷ journal) x h m = (h.0, in_order_push_from opened (before ++ y ∷ []) journal x h.1 (subst (λ js. MayCome opened js x) (sym (append_assoc before (y ∷ []) journal)) m))
-
-pub in_order_push : (opened : List Entry) (journal : List Event) (x : Event) → InOrder opened journal → MayCome opened journal x → InOrder opened (journal ++ x ∷ [])
-in_order_push opened journal x h m = in_order_push_from opened [] journal x h m
 
 -- a type's effect on a mark, of which two values are many
 kind_mark : (kind : ValueType) (n s number : ℕ) (w : Bool) → ◌≡◌ {A = Mark} (record { next = max n (number + 1); sets = min (cond (is_value_kind kind) (s + 1) s) 2; is_weak = is_weak_kind kind || w }) (next_mark (record { next = n; sets = min s 2; is_weak = w }) number kind)

@@ -27,6 +27,7 @@ use Rattle.lsm_state.specs.Calls.{IsWriteStep, IsGetStep, Gives, RefusesRead, Ro
 use Rattle.lsm_state.specs.Ranges.{IsListStep}
 use Rattle.lsm_iter.specs.Guards.{Pair, pair_of}
 use Rattle.lsm_state.specs.Refusals.{batch_refusal, is_great, is_long_key, is_long_value}
+use Rattle.lsm_model.proofs.Journals.{in_order_push}
 use Rattle.lsm_recorded.specs.declared.marks.Mark.{Mark}
 use Rattle.lsm_recorded.specs.Marks.{mark_of, mark_in, marked_by, marked_all, entry_allowed, op_allowed}
 use Rattle.lsm_recorded.specs.Order.{keeps_order, batch_keeps_order}
@@ -35,7 +36,7 @@ use Rattle.lsm_recorded.specs.Recorded.{AreMarked, IsRecorded, OwnOr, Stays, Sta
 use Rattle.lsm_recorded.specs.Passes.{Notes}
 use Rattle.lsm_recorded.proofs.Watermarks.{same_marked, still_marked}
 use Rattle.lsm_recorded.proofs.BatchLemmas.{key_is, seqno_is, not_refused, allowed_order}
-use Rattle.lsm_recorded.proofs.MarksLemmas.{order_marked, in_order_push, mark_in-read, mark_in-write, mark_in-writes, marked_by_same, marked_all_same, IsCounted, write_counted, batch_counted, floor-write, floor-writes, entry_keys}
+use Rattle.lsm_recorded.proofs.MarksLemmas.{order_marked, mark_in-read, mark_in-write, mark_in-writes, marked_by_same, marked_all_same, IsCounted, write_counted, batch_counted, floor-write, floor-writes, entry_keys}
 
 -- ---- what a tree refuses of a read
 

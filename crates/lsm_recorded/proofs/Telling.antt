@@ -14,11 +14,11 @@ use Rattle.lsm_model.specs.Beginnings.{shown_by}
 use Rattle.lsm_model.specs.declared.journal.JournalEntry.TheVariants.{Write, Clear, Install, Dropped, Mark as Watermark, Read}
 use Rattle.lsm_state.specs.Core.{Core, state_of}
 use Rattle.lsm_state.specs.CompactionReads.{SparesReads, IsAny, IsAnySnapshot, AreSparedBy}
+use Rattle.lsm_model.proofs.Journals.{in_order_push}
 use Rattle.lsm_recorded.specs.declared.marks.Mark.{Mark}
 use Rattle.lsm_recorded.specs.Marks.{mark_in}
 use Rattle.lsm_recorded.specs.Order.{weak_after}
 use Rattle.lsm_recorded.specs.Recorded.{AreMarked, IsRecorded, Stays, StaysBehind}
-use Rattle.lsm_recorded.proofs.MarksLemmas.{in_order_push}
 use Rattle.lsm_recorded.proofs.RecordedLemmas.{recorded}
 
 -- marks and dropped ranges, and after them at most an install or a clear under this number

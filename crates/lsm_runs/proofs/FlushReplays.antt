@@ -40,7 +40,7 @@ unread_flushed w n true (Err e) opened = refl
 -- ---- rotation
 
 -- another super version of the same number is found as well
-other_found : (s : ℕ) (a b : SuperVersion) (older : List SuperVersion) (sv : SuperVersion) → b.number ≡ a.number → found_at s a older ≡ Some sv → (v : SuperVersion) × (found_at s b older ≡ Some v)
+pub other_found : (s : ℕ) (a b : SuperVersion) (older : List SuperVersion) (sv : SuperVersion) → b.number ≡ a.number → found_at s a older ≡ Some sv → (v : SuperVersion) × (found_at s b older ≡ Some v)
 other_found s a b older sv same found =
     elim (s == 0) as (λ z. cond z (Some (front a older)) (find (λ (x : SuperVersion). nat_lt x.number s) (a ∷ older)) ≡ Some sv → (v : SuperVersion) × (cond z (Some (front b older)) (find (λ (x : SuperVersion). nat_lt x.number s) (b ∷ older)) ≡ Some v)) [
       | true ↦ λ f. (front b older, refl)

@@ -9,7 +9,7 @@ use Rattle.lsm_model.specs.Views.{HasDistinctIds}
 use Rattle.lsm_model.specs.Steps.{State, Action, Step, Maintained, Moved, DroppedTables}
 use Rattle.lsm_model.specs.Beginnings.{Note, Deeds, Done, Lost, IsDone, is_commit, is_lost, noted_by, noted_lost, told_lost}
 use Rattle.lsm_model.specs.declared.journal.JournalEntry.TheVariants.{Mark, Install}
-use Rattle.lsm_model.proofs.Journals.{not_kept}
+use Rattle.lsm_model.proofs.Journals.{not_kept, marked}
 use Rattle.lsm_versions.specs.Levels.{SeenVersion, HasOwnIds, all_of, placed_in, placed_of}
 use Rattle.lsm_versions.specs.Installs.{MovesAreSteps, DropsAreSteps}
 use Rattle.lsm_checks.specs.declared.choice.Why.{Why}
@@ -38,7 +38,7 @@ use Rattle.lsm_state.specs.CompactionDeeds.{AreLostTelling, dropped_by, IsChoice
 use Rattle.lsm_state.proofs.Distinct.{distinct_placed}
 use Rattle.lsm_state.proofs.Forgetting.{cleaned_step}
 use Rattle.lsm_state.proofs.FlushSteps.{names_older}
-use Rattle.lsm_state.proofs.FlushDeeds.{clash, marked, mark_done, none_other}
+use Rattle.lsm_state.proofs.FlushDeeds.{clash, mark_done, none_other}
 
 -- ---- marks
 
@@ -48,7 +48,7 @@ kept_before s journal more h =
     let k : fold (kept_after s) (is_kept s journal) more ≡ true = sym (fold-append (kept_after s) true journal more) ∙ h in
     elim (is_kept s journal) as (λ b. fold (kept_after s) b more ≡ true → b ≡ true) [ true ↦ λ _. refl | false ↦ λ z. absurd (clash (sym (not_kept s more) ∙ z)) ] k
 
-still_marked : (w : ℕ) (journal more : List Event) → IsMarkedIn w journal → IsMarkedIn w (journal ++ more)
+pub still_marked : (w : ℕ) (journal more : List Event) → IsMarkedIn w journal → IsMarkedIn w (journal ++ more)
 still_marked w journal more h s k = h s (kept_before s journal more k)
 
 -- ---- an install of any kind

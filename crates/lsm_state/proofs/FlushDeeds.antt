@@ -1,16 +1,14 @@
 -- What registering a flush does, as deeds of the theory of crashes.
-use Rattle.std.proofs.Common.{◌≡◌, ℕ, ◌≤◌, Bool, true, false, cond, List, [], ◌∷◌, ◌++◌, map, fold, length, None, option_to_list, Err, refl, sym, ap, ◌∙◌, subst, append_assoc, append-nil, ltb}
-use Rattle.std.proofs.lemmas.Bool.{ltb-false}
-use Rattle.std.proofs.lemmas.Grind.{fold-append}
+use Rattle.std.proofs.Common.{◌≡◌, ℕ, ◌≤◌, Bool, true, false, List, [], ◌∷◌, ◌++◌, map, length, None, option_to_list, Err, refl, sym, ap, ◌∙◌, subst, append_assoc, append-nil}
 use Rattle.lsm_below.specs.Entries.{Entry}
 use Rattle.lsm_below.specs.declared.error.Error.{Error}
 use Rattle.lsm_below.specs.declared.error.Error.TheVariants.{CommitUnknown}
-use Rattle.lsm_model.specs.Journal.{Event, is_kept, kept_after}
+use Rattle.lsm_model.specs.Journal.{Event}
 use Rattle.lsm_model.specs.Views.{HasDistinctIds}
 use Rattle.lsm_model.specs.Steps.{Step, Marked, Maintained}
 use Rattle.lsm_model.specs.Beginnings.{Note, FlushedIds, IsDone, IsLost}
 use Rattle.lsm_model.specs.declared.journal.JournalEntry.TheVariants.{Install, Mark}
-use Rattle.lsm_model.proofs.Journals.{not_kept}
+use Rattle.lsm_model.proofs.Journals.{marked}
 use Rattle.lsm_versions.specs.Levels.{all_of, placed_of}
 use Rattle.lsm_versions.specs.Installs.{FlushesAreSteps}
 use Rattle.lsm_flush.specs.Jobs.{SeenWritten, IsWrittenFrom}
@@ -31,15 +29,6 @@ use Rattle.lsm_state.proofs.FlushSteps.{flush_step, names_older}
 
 pub clash : false ≡ true → ⊥
 clash e = cc e
-
--- no kept snapshot is below a watermark of the journal
-pub marked : (s w : ℕ) (journal more : List Event) → is_kept s (journal ++ (Mark w ∷ more)) ≡ true → w ≤ s
-marked s w journal more h =
-    let k : fold (kept_after s) (cond (ltb s w) false (is_kept s journal)) more ≡ true = sym (fold-append (kept_after s) true journal (Mark w ∷ more)) ∙ h in
-    elim (ltb s w) as (λ b. ltb s w ≡ b → fold (kept_after s) (cond b false (is_kept s journal)) more ≡ true → w ≤ s) [
-      | true ↦ λ q z. absurd (clash (sym (not_kept s more) ∙ z))
-      | false ↦ λ q z. ltb-false s w q
-    ] refl k
 
 latest_distinct : (c : Core) → IsKeptTree c → HasDistinctIds (placed_of c.history.latest.version.levels)
 latest_distinct c kept = distinct_placed c.history.latest.version.levels (own_behind (written_by c.flush) (all_of c.history.latest.version.levels) kept.tables.own_ids)
