@@ -11,18 +11,16 @@ use lsm_tree::{
 use std::alloc::{AllocError, Global};
 use std::collections::HashSet;
 
-/// The last level.
-const LAST: u8 = 6;
-
 /// From this many bytes of entries on a merge begins a new table.
 const TABLE_BYTES: u64 = 64 * 1024 * 1024;
 
 /// The choice to merge these tables into the last level.
-fn merge_into_last(table_ids: HashSet<TableId>) -> Choice {
+fn merge_into_last(table_ids: HashSet<TableId>, config: &Config) -> Choice {
+    let last = config.level_count().saturating_sub(1);
     Choice::Merge(Input {
         table_ids,
-        dest_level: LAST,
-        canonical_level: LAST,
+        dest_level: last,
+        canonical_level: last,
         target_size: TABLE_BYTES,
     })
 }
@@ -36,10 +34,11 @@ fn all_ids(alloc: Global, version: &Version) -> Result<HashSet<TableId>, AllocEr
     Ok(ids)
 }
 
-/// Merges all tables once the first level has so many runs.
+/// Merges all tables once the first level has so many runs, and one more, that it may be wrong about.
 #[derive(Drop)]
 struct MergeAtRuns {
     runs: usize,
+    guessed: Option<TableId>,
 }
 
 impl CompactionStrategy for MergeAtRuns {
@@ -56,48 +55,20 @@ impl CompactionStrategy for MergeAtRuns {
         &self,
         alloc: Global,
         version: &Version,
-        _config: &Config,
+        config: &Config,
         state: &CompactionState,
     ) -> Result<Choice, ChooseError> {
-        let ids = all_ids(alloc, version)?;
+        let mut ids = all_ids(alloc, version)?;
+        if let Some(id) = self.guessed {
+            ids.insert(id)?;
+        }
         // A table that an open merge works on would only be declined.
         let waits = version.l0().run_count() < self.runs || state.hidden_set().is_blocked(&ids);
         Ok(if waits {
             Choice::DoNothing
         } else {
-            merge_into_last(ids)
+            merge_into_last(ids, config)
         })
-    }
-}
-
-/// The id of a table that isn't there.
-fn absent_id(alloc: Global) -> Result<HashSet<TableId>, AllocError> {
-    let mut ids = HashSet::new(alloc);
-    ids.insert(1_000)?;
-    Ok(ids)
-}
-
-/// Merges a table that isn't there.
-#[derive(Drop)]
-struct Wrong;
-
-impl CompactionStrategy for Wrong {
-    ghost may_choose = { λ s config hidden version choice. Unit {0} };
-
-    ghost may_refuse = { λ s config hidden version e. Unit {0} };
-
-    fn get_name(&self) -> &'static str {
-        "Wrong"
-    }
-
-    fn choose(
-        &self,
-        alloc: Global,
-        _version: &Version,
-        _config: &Config,
-        _state: &CompactionState,
-    ) -> Result<Choice, ChooseError> {
-        Ok(merge_into_last(absent_id(alloc)?))
     }
 }
 
@@ -121,13 +92,21 @@ fn add_table(alloc: Global, tree: &mut TreeState, key: &'static str) -> Result<(
 
 /// Writes a key three times, each time into a table and so a run of its own, and compacts after each.
 fn show(rt: &impl Print, alloc: Global, tree: &mut TreeState) -> Result<()> {
-    let strategy = MergeAtRuns { runs: 3 };
+    let strategy = MergeAtRuns {
+        runs: 3,
+        guessed: None,
+    };
     for _ in 0..3 {
         add_table(alloc, tree, "a")?;
         let watermark = tree.visible_seqno().get();
         print_begun(rt, tree.compact(&strategy, watermark)?)?;
     }
-    print_begun(rt, tree.compact(&Wrong, 0)?)?;
+    // There is no such table.
+    let wrong = MergeAtRuns {
+        runs: 0,
+        guessed: Some(1_000),
+    };
+    print_begun(rt, tree.compact(&wrong, 0)?)?;
     println!(rt;
         "tables {}, entries {}",
         tree.table_count(),

@@ -11,6 +11,16 @@ use std::alloc::{AllocError, Global};
 use std::marker::Model;
 use std::ops::Bound;
 
+/// A memtable on top of what a snapshot shows, as of writes that aren't in the tree, with the sequence number below which its
+/// entries count. None: the tree alone.
+///
+/// # Examples
+///
+/// ```text
+/// let pairs = tree.pairs(&bounds, snapshot, Some((&writes, snapshot + 1)))?;
+/// ```
+pub type Overlay<'a> = Option<(&'a Memtable, SeqNo)>;
+
 /// What an iterator reads: a version of tables, memtables, and maybe a memtable on top that is an index of
 /// its own. The entries of an index count below its own sequence number, all others below the snapshot.
 ///
@@ -24,7 +34,7 @@ use std::ops::Bound;
 pub struct IterState<'a> {
     version: &'a Version,
     memtables: Vec<&'a Memtable>,
-    overlay: Option<(&'a Memtable, SeqNo)>,
+    overlay: Overlay<'a>,
 }
 
 impl<'a> Model for IterState<'a> {
@@ -40,7 +50,7 @@ impl<'a> IterState<'a> {
     pub fn new(
         version: &'a Version,
         memtables: Vec<&'a Memtable>,
-        overlay: Option<(&'a Memtable, SeqNo)>,
+        overlay: Overlay<'a>,
     ) -> IterState<'a>
         ensures { result ≡ state_of version.now memtables.entry.items overlay.entry }
     {

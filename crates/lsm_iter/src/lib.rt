@@ -35,7 +35,7 @@ mod trim;
 mod walk;
 
 pub use guard::{Guard, IterGuard, RangeItem};
-pub use iter_state::IterState;
+pub use iter_state::{IterState, Overlay};
 pub use laws::shown_is_the_view;
 pub use lsm_below::Error;
 use lsm_memtable::Memtable;

@@ -97,7 +97,7 @@ fn push_memtable<'a, R: Reader<'a>>(
 pub(crate) fn push_index<'a, R: Reader<'a>>(
     alloc: Global,
     readers: &mut Vec<R>,
-    overlay: Option<(&'a Memtable, SeqNo)>,
+    overlay: Overlay<'a>,
     bounds: &(Bound<UserKey>, Bound<UserKey>),
 ) -> Result<(), AllocError>
     ensures { OnOk result

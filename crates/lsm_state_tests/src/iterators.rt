@@ -4,7 +4,7 @@ use crate::given::{Turn, is, listed, takes};
 use crate::samples::Edge::{In, Open, Out};
 use crate::samples::{Edge, Entry, INDEX, OVER_A_B, add, bounds, filled};
 use lsm_below::{InternalValue, SeqNo};
-use lsm_iter::{End, IterGuard, IterState, TreeIter, end_shown, take_ends};
+use lsm_iter::{End, IterGuard, IterState, Overlay, TreeIter, end_shown, take_ends};
 use lsm_parts::{Error, Memtable, Version};
 use std::alloc::Global;
 use std::process::Abort;
@@ -116,7 +116,7 @@ fn state<'a>(
     alloc: Global,
     version: &'a Version,
     tables: &'a [Memtable],
-    index: Option<(&'a Memtable, SeqNo)>,
+    index: Overlay<'a>,
 ) -> Result<IterState<'a>, Error> {
     let mut borrowed = Vec::new(alloc);
     for table in tables {
@@ -193,12 +193,7 @@ fn answers(alloc: Global, state: &IterState<'_>, snapshot: SeqNo, ask: &Ask) -> 
     }
 }
 
-fn answers_over(
-    alloc: Global,
-    tables: &[Memtable],
-    index: Option<(&Memtable, SeqNo)>,
-    row: &Row,
-) -> bool {
+fn answers_over(alloc: Global, tables: &[Memtable], index: Overlay<'_>, row: &Row) -> bool {
     let version = Version::new(alloc, 0);
     match state(alloc, &version, tables, index) {
         Ok(state) => answers(alloc, &state, row.1, &row.2),

@@ -42,7 +42,8 @@ pub use lsm_below::{
     head_of, is_run, optimize_runs, share,
 };
 pub use lsm_iter::{
-    End, Guard, IterGuard, IterState, Pairs, RangeItem, TreeIter, prefix_to_range, take_ends,
+    End, Guard, IterGuard, IterState, Overlay, Pairs, RangeItem, TreeIter, prefix_to_range,
+    take_ends,
 };
 pub use lsm_memtable::{Iter, Memtable, Revocable, Span, Steps};
 pub use lsm_tables::{

@@ -9,9 +9,9 @@ use crate::counts::HasTree;
 use crate::handle::Handle;
 use crate::lock::read_tree;
 use lsm_below::{InternalValue, SeqNo, UserKey, UserValue};
-use lsm_iter::{Guard, TreeIter};
+use lsm_iter::{Guard, Overlay, TreeIter};
 use lsm_logged::Logged;
-use lsm_parts::{Error, Memtable};
+use lsm_parts::Error;
 use lsm_state::TreeState;
 use lsm_store::Store;
 use std::ops::Bound;
@@ -79,7 +79,7 @@ impl<C: ReadsTree> Handle<C> {
         rt: &impl Wait,
         bounds: &(Bound<UserKey>, Bound<UserKey>),
         snapshot: SeqNo,
-        index: Option<(&Memtable, SeqNo)>,
+        index: Overlay<'_>,
     ) -> Result<TreeIter, Error>
         ensures { AtSomeTree (λ c. ReadsRange c index.entry bounds.now.0 bounds.now.1 snapshot result) }
     {
@@ -96,7 +96,7 @@ impl<C: ReadsTree> Handle<C> {
         rt: &impl Wait,
         bounds: &(Bound<UserKey>, Bound<UserKey>),
         snapshot: SeqNo,
-        index: Option<(&Memtable, SeqNo)>,
+        index: Overlay<'_>,
     ) -> Result<TreeIter, Error>
         ensures { AtSomeTree (λ c. ReadsRange c index.entry bounds.now.0 bounds.now.1 snapshot result) }
     {
@@ -109,7 +109,7 @@ impl<C: ReadsTree> Handle<C> {
         rt: &impl Wait,
         bounds: &(Bound<UserKey>, Bound<UserKey>),
         snapshot: SeqNo,
-        index: Option<(&Memtable, SeqNo)>,
+        index: Overlay<'_>,
     ) -> Result<TreeIter, Error>
         ensures { AtSomeTree (λ c. ReadsRange c index.entry bounds.now.0 bounds.now.1 snapshot result) }
     {
@@ -121,7 +121,7 @@ impl<C: ReadsTree> Handle<C> {
         &self,
         rt: &impl Wait,
         snapshot: SeqNo,
-        index: Option<(&Memtable, SeqNo)>,
+        index: Overlay<'_>,
     ) -> Result<TreeIter, Error>
         ensures { AtSomeTree (λ c. ReadsRange c index.entry Unbounded Unbounded snapshot result) }
     {
@@ -133,7 +133,7 @@ impl<C: ReadsTree> Handle<C> {
         &self,
         rt: &impl Wait,
         snapshot: SeqNo,
-        index: Option<(&Memtable, SeqNo)>,
+        index: Overlay<'_>,
     ) -> Result<TreeIter, Error>
         ensures { AtSomeTree (λ c. ReadsRange c index.entry Unbounded Unbounded snapshot result) }
     {
@@ -146,7 +146,7 @@ impl<C: ReadsTree> Handle<C> {
         rt: &impl Wait,
         prefix: &[u8],
         snapshot: SeqNo,
-        index: Option<(&Memtable, SeqNo)>,
+        index: Overlay<'_>,
     ) -> Result<TreeIter, Error>
         ensures { AtSomeTree (λ c. ReadsPrefix c index.entry prefix.now snapshot result) }
     {
@@ -159,7 +159,7 @@ impl<C: ReadsTree> Handle<C> {
         rt: &impl Wait,
         prefix: &[u8],
         snapshot: SeqNo,
-        index: Option<(&Memtable, SeqNo)>,
+        index: Overlay<'_>,
     ) -> Result<TreeIter, Error>
         ensures { AtSomeTree (λ c. ReadsPrefix c index.entry prefix.now snapshot result) }
     {
@@ -167,12 +167,7 @@ impl<C: ReadsTree> Handle<C> {
     }
 
     /// How many keys a snapshot shows, as `TreeState::len`.
-    pub fn len(
-        &self,
-        rt: &impl Wait,
-        snapshot: SeqNo,
-        index: Option<(&Memtable, SeqNo)>,
-    ) -> Result<usize, Error>
+    pub fn len(&self, rt: &impl Wait, snapshot: SeqNo, index: Overlay<'_>) -> Result<usize, Error>
         ensures { AtSomeTree (λ c. Reads (Numbers c index.entry snapshot) c snapshot result) }
     {
         read_tree!(self, rt, |tree| tree.len(snapshot, index))
@@ -183,7 +178,7 @@ impl<C: ReadsTree> Handle<C> {
         &self,
         rt: &impl Wait,
         snapshot: SeqNo,
-        index: Option<(&Memtable, SeqNo)>,
+        index: Overlay<'_>,
     ) -> Result<bool, Error>
         ensures { AtSomeTree (λ c. Reads (TellsEmpty Front c index.entry snapshot) c snapshot result) }
     {
@@ -195,7 +190,7 @@ impl<C: ReadsTree> Handle<C> {
         &self,
         rt: &impl Wait,
         snapshot: SeqNo,
-        index: Option<(&Memtable, SeqNo)>,
+        index: Overlay<'_>,
     ) -> Result<Option<Guard>, Error>
         ensures { AtSomeTree (λ c. Reads (PairAt Front c index.entry snapshot) c snapshot result) }
     {
@@ -207,7 +202,7 @@ impl<C: ReadsTree> Handle<C> {
         &self,
         rt: &impl Wait,
         snapshot: SeqNo,
-        index: Option<(&Memtable, SeqNo)>,
+        index: Overlay<'_>,
     ) -> Result<Option<Guard>, Error>
         ensures { AtSomeTree (λ c. Reads (PairAt Back c index.entry snapshot) c snapshot result) }
     {

@@ -11,7 +11,7 @@ ghost use Rattle.lsm_state.specs.Reading.{Reads, ReadsRange, ReadsPrefix, LendsR
 
 use crate::{TreeState, lists_are_steps};
 use lsm_below::{InternalValue, MemtableId, SeqNo, UserKey};
-use lsm_iter::{End, Guard, IterState, Pairs, TreeIter, count_shown, end_shown};
+use lsm_iter::{End, Guard, IterState, Overlay, Pairs, TreeIter, count_shown, end_shown};
 use lsm_parts::{Error, Memtable, Memtables, SuperVersion};
 use lsm_store::Store;
 use std::alloc::{AllocError, Global};
@@ -75,11 +75,7 @@ fn is_over(pairs: Pairs<'_>) -> bool
 
 impl<S: Store> TreeState<S> {
     /// What an iterator reads at a snapshot, under an index: the memtables and tables of the snapshot's super version.
-    fn state_at<'a>(
-        &'a self,
-        snapshot: SeqNo,
-        index: Option<(&'a Memtable, SeqNo)>,
-    ) -> Result<IterState<'a>, Error>
+    fn state_at<'a>(&'a self, snapshot: SeqNo, index: Overlay<'a>) -> Result<IterState<'a>, Error>
         ensures ok { IfOk result (λ state. AtVersion self.now.core snapshot (λ sv. IsReading self.now.core.memtables index.entry sv state)) }
         ensures refuses { RefusesRead self.now.core snapshot result }
     {
@@ -97,7 +93,7 @@ impl<S: Store> TreeState<S> {
         &self,
         bounds: &(Bound<UserKey>, Bound<UserKey>),
         snapshot: SeqNo,
-        index: Option<(&Memtable, SeqNo)>,
+        index: Overlay<'_>,
     ) -> Result<TreeIter, Error>
         ensures { ReadsRange self.now.core index.entry bounds.now.0 bounds.now.1 snapshot result }
     {
@@ -125,7 +121,7 @@ impl<S: Store> TreeState<S> {
         &'a self,
         bounds: &(Bound<UserKey>, Bound<UserKey>),
         snapshot: SeqNo,
-        index: Option<(&'a Memtable, SeqNo)>,
+        index: Overlay<'a>,
     ) -> Result<Pairs<'a>, Error>
         ensures { LendsRange self.now.core index.entry bounds.now.0 bounds.now.1 snapshot result }
     {
@@ -141,7 +137,7 @@ impl<S: Store> TreeState<S> {
         &'a self,
         prefix: &[u8],
         snapshot: SeqNo,
-        index: Option<(&'a Memtable, SeqNo)>,
+        index: Overlay<'a>,
     ) -> Result<Pairs<'a>, Error>
         ensures { LendsPrefix self.now.core index.entry prefix.now snapshot result }
     {
@@ -165,7 +161,7 @@ impl<S: Store> TreeState<S> {
         &self,
         bounds: &(Bound<UserKey>, Bound<UserKey>),
         snapshot: SeqNo,
-        index: Option<(&Memtable, SeqNo)>,
+        index: Overlay<'_>,
     ) -> Result<TreeIter, Error>
         ensures { ReadsRange self.now.core index.entry bounds.now.0 bounds.now.1 snapshot result }
     {
@@ -177,7 +173,7 @@ impl<S: Store> TreeState<S> {
         &self,
         bounds: &(Bound<UserKey>, Bound<UserKey>),
         snapshot: SeqNo,
-        index: Option<(&Memtable, SeqNo)>,
+        index: Overlay<'_>,
     ) -> Result<TreeIter, Error>
         ensures { ReadsRange self.now.core index.entry bounds.now.0 bounds.now.1 snapshot result }
     {
@@ -185,22 +181,14 @@ impl<S: Store> TreeState<S> {
     }
 
     /// All that a snapshot shows, as `range` with open bounds.
-    pub fn iter(
-        &self,
-        snapshot: SeqNo,
-        index: Option<(&Memtable, SeqNo)>,
-    ) -> Result<TreeIter, Error>
+    pub fn iter(&self, snapshot: SeqNo, index: Overlay<'_>) -> Result<TreeIter, Error>
         ensures { ReadsRange self.now.core index.entry Unbounded Unbounded snapshot result }
     {
         self.create_internal_range(&ALL, snapshot, index)
     }
 
     /// `iter`, under the name that it has in the crate that this one follows.
-    pub fn create_iter(
-        &self,
-        snapshot: SeqNo,
-        index: Option<(&Memtable, SeqNo)>,
-    ) -> Result<TreeIter, Error>
+    pub fn create_iter(&self, snapshot: SeqNo, index: Overlay<'_>) -> Result<TreeIter, Error>
         ensures { ReadsRange self.now.core index.entry Unbounded Unbounded snapshot result }
     {
         self.create_internal_range(&ALL, snapshot, index)
@@ -211,7 +199,7 @@ impl<S: Store> TreeState<S> {
         &self,
         prefix: &[u8],
         snapshot: SeqNo,
-        index: Option<(&Memtable, SeqNo)>,
+        index: Overlay<'_>,
     ) -> Result<TreeIter, Error>
         ensures { ReadsPrefix self.now.core index.entry prefix.now snapshot result }
     {
@@ -225,7 +213,7 @@ impl<S: Store> TreeState<S> {
         &self,
         prefix: &[u8],
         snapshot: SeqNo,
-        index: Option<(&Memtable, SeqNo)>,
+        index: Overlay<'_>,
     ) -> Result<TreeIter, Error>
         ensures { ReadsPrefix self.now.core index.entry prefix.now snapshot result }
     {
@@ -233,7 +221,7 @@ impl<S: Store> TreeState<S> {
     }
 
     /// How many keys a snapshot shows. It walks over all of them as `pairs` does.
-    pub fn len(&self, snapshot: SeqNo, index: Option<(&Memtable, SeqNo)>) -> Result<usize, Error>
+    pub fn len(&self, snapshot: SeqNo, index: Overlay<'_>) -> Result<usize, Error>
         ensures { Reads (Numbers self.now.core index.entry snapshot) self.now.core snapshot result }
     {
         let state = self.state_at(snapshot, index)?;
@@ -241,11 +229,7 @@ impl<S: Store> TreeState<S> {
     }
 
     /// Whether a snapshot shows nothing. It stops at the first pair that it finds, which isn't copied.
-    pub fn is_empty(
-        &self,
-        snapshot: SeqNo,
-        index: Option<(&Memtable, SeqNo)>,
-    ) -> Result<bool, Error>
+    pub fn is_empty(&self, snapshot: SeqNo, index: Overlay<'_>) -> Result<bool, Error>
         ensures { Reads (TellsEmpty Front self.now.core index.entry snapshot) self.now.core snapshot result }
     {
         match self.pairs(&ALL, snapshot, index) {
@@ -259,7 +243,7 @@ impl<S: Store> TreeState<S> {
     pub fn first_key_value(
         &self,
         snapshot: SeqNo,
-        index: Option<(&Memtable, SeqNo)>,
+        index: Overlay<'_>,
     ) -> Result<Option<Guard>, Error>
         ensures { Reads (PairAt Front self.now.core index.entry snapshot) self.now.core snapshot result }
     {
@@ -270,7 +254,7 @@ impl<S: Store> TreeState<S> {
     pub fn last_key_value(
         &self,
         snapshot: SeqNo,
-        index: Option<(&Memtable, SeqNo)>,
+        index: Overlay<'_>,
     ) -> Result<Option<Guard>, Error>
         ensures { Reads (PairAt Back self.now.core index.entry snapshot) self.now.core snapshot result }
     {
@@ -282,7 +266,7 @@ impl<S: Store> TreeState<S> {
         &self,
         end: End,
         snapshot: SeqNo,
-        index: Option<(&Memtable, SeqNo)>,
+        index: Overlay<'_>,
     ) -> Result<Option<Guard>, Error>
         ensures { Reads (PairAt end self.now.core index.entry snapshot) self.now.core snapshot result }
     {
@@ -298,7 +282,7 @@ impl<S: Store> TreeState<S> {
         &self,
         end: End,
         snapshot: SeqNo,
-        index: Option<(&Memtable, SeqNo)>,
+        index: Overlay<'_>,
     ) -> Result<Option<InternalValue>, Error>
         ensures { Reads (EndOf end self.now.core index.entry snapshot) self.now.core snapshot result }
     {
