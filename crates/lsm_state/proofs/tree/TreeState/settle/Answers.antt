@@ -1,4 +1,4 @@
-use Rattle.std.proofs.Common.{◌<◌, None, drop, length}
+use Rattle.std.proofs.Common.{◌≡◌, ◌<◌, ◌∷◌, None, true, drop, length, ap, sym, subst, ◌∙◌, refl, option_to_list}
 use Rattle.std.proofs.lemmas.Result.{IfOk-weaker}
 use Rattle.std.specs.List.{AllByRecursion}
 use Rattle.lsm_manifest.specs.Names.{version_name}
@@ -6,32 +6,46 @@ use Rattle.lsm_parts.specs.History.{SeenHistory, versions_of}
 use Rattle.lsm_state.specs.Cleaning.{AreAbsent, LeavesNoFiles}
 use Rattle.lsm_state.proofs.CleaningUp.{gone_versions, gone_tables}
 use Rattle.lsm_commit.specs.Foreign.{Passes, passes_then}
-use Rattle.std.proofs.Common.{◌≡◌, ◌∷◌, true, ap, sym, subst, ◌∙◌, refl, option_to_list}
 use Rattle.lsm_versions.specs.Levels.{all_of}
 use Rattle.lsm_commit.specs.Commits.{AreOthers}
+use Rattle.lsm_commit.specs.Stored.{AreOnDisk}
 use Rattle.lsm_state.specs.Core.{versions_left, written_of}
-use Rattle.lsm_state.specs.Commits.{committed}
+use Rattle.lsm_state.specs.Commits.{UpholdsFiles, committed}
 use Rattle.lsm_state.specs.Cleaning.{Cleans}
 use Rattle.lsm_state.specs.Settling.{with_version}
 use Rattle.lsm_state.proofs.Upholding.{upheld_at}
 use Rattle.lsm_state.proofs.Installing.{files_join}
 use Rattle.lsm_state.proofs.Replacing.{settled}
+use Rattle.lsm_state.proofs.tree.TreeState.settle.Given.{Over}
+use Rattle.lsm_state.proofs.tree.TreeState.settle.Goals.{After-clean_up}
 use Rattle.lsm_state.proofs.tree.TreeState.settle.Goals as goal
+
+-- once the version is committed and cleaned up after: no outcome is unknown, a crash leaves what it may, foreign names stay
+module _ (g : Over) (c : After-clean_up g) where
+  certain : c.commit.new.self.core.lost ≡ None
+  certain = ap (λ k. k.lost) c.in_ok-commit.ensures.commits.ok ∙ c.requires.certain
+
+  upheld : g.S.Store.tells → AreOnDisk (g.S.Store.world c.args.self.now.store) (all_of c.args.version.levels) → UpholdsFiles (g.S.Store.world c.args.self.now.store) (g.S.Store.world c.clean_up.new.self.store) c.args.self.now.core c.clean_up.new.self.core
+  upheld tells disk =
+      let w = g.S.Store.world in
+      let now = c.args.self.now in
+      let mid = c.commit.new.self in
+      let new = c.clean_up.new.self in
+      let cleans = c.clean_up.ensures.cleans in
+      let left : versions_left new.core ≡ versions_left mid.core = ap (λ sv. sv.version ∷ option_to_list new.core.lost) cleans.history.latest ∙ ap (λ k. mid.core.history.latest.version ∷ option_to_list k.lost) cleans.rest in
+      files_join (w now.store) (w mid.store) (w new.store) now.core mid.core new.core left (c.commit.ensures.upholds tells disk) (c.clean_up.ensures.upholds tells certain).files
+
+  passes : g.S.Store.tells → Passes (g.S.Store.world c.args.self.now.store) (g.S.Store.world c.clean_up.new.self.store)
+  passes tells =
+      let w = g.S.Store.world in
+      passes_then (w c.args.self.now.store) (w c.commit.new.self.store) (w c.clean_up.new.self.store) (c.commit.ensures.passes tells) (c.clean_up.ensures.upholds tells certain).passes
 
 pub returns-in_err-copy-clause-upholds : goal.returns-in_err-copy-clause-upholds
 returns-in_err-copy-clause-upholds g c tells disk =
     (upheld_at g.S.Store.world c.args.self.now c.self.inside.store (ap (λ t. t.store) c.self.view_is) (c.crashes_leave_versions.ensures tells)).files
 
 pub returns-then-not-clean_up-clause-upholds : goal.returns-then-not-clean_up-clause-upholds
-returns-then-not-clean_up-clause-upholds g c tells disk =
-    let w = g.S.Store.world in
-    let now = c.args.self.now in
-    let mid = c.commit.new.self in
-    let new = c.clean_up.new.self in
-    let cleans = c.clean_up.ensures.cleans in
-    let left : versions_left new.core ≡ versions_left mid.core = ap (λ sv. sv.version ∷ option_to_list new.core.lost) cleans.history.latest ∙ ap (λ k. mid.core.history.latest.version ∷ option_to_list k.lost) cleans.rest in
-    let certain = ap (λ k. k.lost) c.in_ok-commit.ensures.commits.ok ∙ c.requires.certain in
-    files_join (w now.store) (w mid.store) (w new.store) now.core mid.core new.core left (c.commit.ensures.upholds tells disk) (c.clean_up.ensures.upholds tells certain).files
+returns-then-not-clean_up-clause-upholds g c = upheld g (goal.at.returns-then-not-clean_up-clause-upholds g c).After-clean_up
 
 pub remove_gone-requires-clause-certain : goal.remove_gone-requires-clause-certain
 remove_gone-requires-clause-certain g c = ap (λ k. k.lost) c.clean_up.ensures.cleans.rest ∙ ap (λ k. k.lost) c.in_ok-commit.ensures.commits.ok ∙ c.requires.certain
@@ -59,14 +73,9 @@ pub returns-clause-upholds : goal.returns-clause-upholds
 returns-clause-upholds g c tells disk =
     let w = g.S.Store.world in
     let now = c.args.self.now in
-    let mid = c.commit.new.self in
     let new = c.clean_up.new.self in
     let end = c.remove_gone.new.self in
-    let cleans = c.clean_up.ensures.cleans in
-    let left : versions_left new.core ≡ versions_left mid.core = ap (λ sv. sv.version ∷ option_to_list new.core.lost) cleans.history.latest ∙ ap (λ k. mid.core.history.latest.version ∷ option_to_list k.lost) cleans.rest in
-    let certain = ap (λ k. k.lost) c.in_ok-commit.ensures.commits.ok ∙ c.requires.certain in
-    let cleaned = files_join (w now.store) (w mid.store) (w new.store) now.core mid.core new.core left (c.commit.ensures.upholds tells disk) (c.clean_up.ensures.upholds tells certain).files in
-    files_join (w now.store) (w new.store) (w end.store) now.core new.core end.core (ap versions_left c.remove_gone.ensures.core) cleaned (c.remove_gone.ensures.upholds tells).files
+    files_join (w now.store) (w new.store) (w end.store) now.core new.core end.core (ap versions_left c.remove_gone.ensures.core) (upheld g (goal.at.returns-clause-upholds g c).After-clean_up tells disk) (c.remove_gone.ensures.upholds tells).files
 
 pub returns-in_err-copy-clause-passes : goal.returns-in_err-copy-clause-passes
 returns-in_err-copy-clause-passes g c tells =
@@ -74,17 +83,12 @@ returns-in_err-copy-clause-passes g c tells =
     subst (λ t. Passes (w t.store) (w t.store)) c.self.view_is (c.crashes_leave_versions.ensures tells).passes
 
 pub returns-then-not-clean_up-clause-passes : goal.returns-then-not-clean_up-clause-passes
-returns-then-not-clean_up-clause-passes g c tells =
-    let w = g.S.Store.world in
-    let certain = ap (λ k. k.lost) c.in_ok-commit.ensures.commits.ok ∙ c.requires.certain in
-    passes_then (w c.args.self.now.store) (w c.commit.new.self.store) (w c.clean_up.new.self.store) (c.commit.ensures.passes tells) (c.clean_up.ensures.upholds tells certain).passes
+returns-then-not-clean_up-clause-passes g c = passes g (goal.at.returns-then-not-clean_up-clause-passes g c).After-clean_up
 
 pub returns-clause-passes : goal.returns-clause-passes
 returns-clause-passes g c tells =
     let w = g.S.Store.world in
-    let certain = ap (λ k. k.lost) c.in_ok-commit.ensures.commits.ok ∙ c.requires.certain in
-    let cleaned = passes_then (w c.args.self.now.store) (w c.commit.new.self.store) (w c.clean_up.new.self.store) (c.commit.ensures.passes tells) (c.clean_up.ensures.upholds tells certain).passes in
-    passes_then (w c.args.self.now.store) (w c.clean_up.new.self.store) (w c.remove_gone.new.self.store) cleaned (c.remove_gone.ensures.upholds tells).passes
+    passes_then (w c.args.self.now.store) (w c.clean_up.new.self.store) (w c.remove_gone.new.self.store) (passes g (goal.at.returns-clause-passes g c).After-clean_up tells) (c.remove_gone.ensures.upholds tells).passes
 
 pub returns-clause-gone : goal.returns-clause-gone
 returns-clause-gone g c tells =
