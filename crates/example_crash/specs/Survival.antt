@@ -1,5 +1,5 @@
 -- What outlives a process, as a user asks it: derived from the contracts of public calls.
-use Rattle.std.specs.Prelude.{◌≡◌, List, [], map, take, length}
+use Rattle.std.specs.Prelude.{◌≡◌, List, [], Option, Result, map, take, length, IfOk, IfSome, MatchOption, MatchResult}
 use Rattle.std.specs.FinMap.{empty}
 use Rattle.lsm_below.specs.Entries.{Entry}
 use Rattle.lsm_below.specs.declared.error.Error.{Error}
@@ -19,6 +19,7 @@ use Rattle.lsm_runs.specs.Lives.{told_of, LivesInOrder}
 use Rattle.lsm_runs.specs.Notes.{none_begun, EachTells}
 use Rattle.lsm_runs.specs.Runs.{EachAnswers}
 use Rattle.lsm_runs.specs.Told.{Told}
+use Rattle.example_crash.specs.declared.lives.TwoLives.{TwoLives}
 
 -- A step as most callers have it: it writes by batches without weak removals, leaves the counters alone, and forgets nothing that isn't flushed.
 abbrev pub IsUsual : Step → Type 0
@@ -65,6 +66,11 @@ IsWant Store = Unit {0}
 IsWant CommitUnknown = Unit {0}
 IsWant _ = ⊥
 
+-- a call takes the first so many of these steps in a life and in one after it; it is refused only so
+abbrev pub SurvivesOrWants : List Step → List Step → Result (Option TwoLives) Error → Type 0
+SurvivesOrWants first second r =
+    MatchResult r (λ lives. IfSome lives (λ l. Survives (take (length l.before.outcomes.items) first) l.before.outcomes.items (take (length l.after.outcomes.items) second) l.after.outcomes.items)) IsWant
+
 -- ---- whether what is picked can be left
 
 -- a crash may leave of the store what is picked
@@ -76,3 +82,8 @@ pub record EndsWith (P : MemStore → Type 0) (was : MemStore) (steps : List Ste
   pub is : MemStore
   pub lives : LivesInOrder world_of empty (take (length told) steps) told was is
   pub has : P is
+
+-- a call has no second life just where what is picked can't be left of the store after the first one
+abbrev pub CrashesAsPicked : Picks → MemStore → List Step → Result (Option TwoLives) Error → Type 0
+CrashesAsPicked picks store first r =
+    IfOk r (λ lives. MatchOption lives ((told : List Told) × EndsWith (λ s. ¬ CanBeLeft picks s) store first told) (λ l. EndsWith (CanBeLeft picks) store first l.before.outcomes.items))

@@ -1,13 +1,12 @@
 // Two lives of a tree over a store in memory, in which the caller chooses the numbers of his writes.
-ghost use Rattle.std.specs.Prelude.{List, [], None, map, take, length, IfOk, IfSome, MatchOption, MatchResult};
+ghost use Rattle.std.specs.Prelude.{[], None, map};
 ghost use Rattle.std.specs.List.{AllByRecursion};
 ghost use Rattle.lsm_store.specs.Memory.{world_of};
 ghost use Rattle.lsm_store.specs.World.{Begins};
 ghost use Rattle.lsm_run_model.specs.Rising.{At, highest};
 ghost use Rattle.lsm_runs.specs.Drawing.{drawing_of};
-ghost use Rattle.lsm_runs.specs.Told.{Told};
 ghost use Rattle.example_crash.specs.Single.{KeepsOrder, KeepsOrderAbove};
-ghost use Rattle.example_crash.specs.Survival.{IsUsual, IsWant, Survives, CanBeLeft, EndsWith};
+ghost use Rattle.example_crash.specs.Survival.{IsUsual, SurvivesOrWants, CrashesAsPicked};
 
 use crate::lives::TwoLives;
 use crate::single::live_singly;
@@ -32,11 +31,11 @@ pub fn crash_by_hand(
     second: &[Step],
 ) -> Result<Option<TwoLives>, Error>
     requires new { Begins (λ _. None) (world_of store) }
-    ensures by_hand { KeepsOrder [] from first.now → KeepsOrderAbove (highest (At from) (map drawing_of first.now)) again second.now → MatchResult result (λ r. IfSome r (λ l. Survives (take (length l.before.outcomes.items) first.now) l.before.outcomes.items (take (length l.after.outcomes.items) second.now) l.after.outcomes.items)) IsWant }
+    ensures by_hand { KeepsOrder [] from first.now → KeepsOrderAbove (highest (At from) (map drawing_of first.now)) again second.now → SurvivesOrWants first.now second.now result }
     // Usual steps are as good, wherever the counters start.
-    ensures usual { AllByRecursion IsUsual first.now → AllByRecursion IsUsual second.now → MatchResult result (λ r. IfSome r (λ l. Survives (take (length l.before.outcomes.items) first.now) l.before.outcomes.items (take (length l.after.outcomes.items) second.now) l.after.outcomes.items)) IsWant }
+    ensures usual { AllByRecursion IsUsual first.now → AllByRecursion IsUsual second.now → SurvivesOrWants first.now second.now result }
     // None just where what is picked can't be left.
-    ensures crashed { IfOk result (λ r. MatchOption r ((told : List Told) × EndsWith (λ s. ¬ CanBeLeft picks.now s) store first.now told) (λ l. EndsWith (CanBeLeft picks.now) store first.now l.before.outcomes.items)) }
+    ensures crashed { CrashesAsPicked picks.now store first.now result }
 {
     crashes_settle(&store);
     images_stand_once();

@@ -1,5 +1,5 @@
 // Two lives of a tree over a store in memory.
-ghost use Rattle.std.specs.Prelude.{List, None, take, length, IfOk, IfErr, IfSome, MatchOption, MatchResult};
+ghost use Rattle.std.specs.Prelude.{None, take, length, IfOk, IfErr, MatchResult};
 ghost use Rattle.std.specs.List.{AllByRecursion};
 ghost use Rattle.lsm_model.specs.Journal.{Map};
 ghost use Rattle.lsm_store.specs.Memory.{world_of};
@@ -7,8 +7,7 @@ ghost use Rattle.lsm_store.specs.World.{Begins};
 ghost use Rattle.lsm_manifest.specs.Finding.{StandsForMap, RefusesFound};
 ghost use Rattle.lsm_manifest.specs.Ready.{IsReady};
 ghost use Rattle.lsm_runs.specs.Lives.{LivesInOrder};
-ghost use Rattle.lsm_runs.specs.Told.{Told};
-ghost use Rattle.example_crash.specs.Survival.{IsUsual, IsWant, AnswersReplay, Survives, CanBeLeft, EndsWith};
+ghost use Rattle.example_crash.specs.Survival.{IsUsual, IsWant, AnswersReplay, Survives, SurvivesOrWants, CrashesAsPicked};
 
 use lsm_tree::laws::{any_number_of_lives, crashes_settle, images_stand_once};
 use lsm_tree::{CompactionStrategy, Config, Error, MemStore, Pick, Step, Taken, live};
@@ -48,9 +47,9 @@ pub fn crash_between(
     second: &[Step],
 ) -> Result<Option<TwoLives>, Error>
     requires new { Begins (λ _. None) (world_of store) }
-    ensures survives { AllByRecursion IsUsual first.now → AllByRecursion IsUsual second.now → MatchResult result (λ r. IfSome r (λ l. Survives (take (length l.before.outcomes.items) first.now) l.before.outcomes.items (take (length l.after.outcomes.items) second.now) l.after.outcomes.items)) IsWant }
+    ensures survives { AllByRecursion IsUsual first.now → AllByRecursion IsUsual second.now → SurvivesOrWants first.now second.now result }
     // None just where a crash can't leave what is picked of the store after the first life.
-    ensures crashed { IfOk result (λ r. MatchOption r ((told : List Told) × EndsWith (λ s. ¬ CanBeLeft picks.now s) store first.now told) (λ l. EndsWith (CanBeLeft picks.now) store first.now l.before.outcomes.items)) }
+    ensures crashed { CrashesAsPicked picks.now store first.now result }
 {
     crashes_settle(&store);
     images_stand_once();

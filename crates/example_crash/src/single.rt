@@ -1,5 +1,5 @@
 // A tree over a store in memory that takes steps one by one, so that its caller looks at each reply before he takes the next.
-ghost use Rattle.std.specs.Prelude.{◌≡◌, ◌≤◌, ◌++◌, ◌∷◌, ℕ, [], List, None, take, length, IfOk, IfErr, OnOk, OnErr, IfSome, MatchOption, MatchResult};
+ghost use Rattle.std.specs.Prelude.{◌≡◌, ◌≤◌, ◌++◌, ◌∷◌, ℕ, [], List, None, take, length, IfOk, IfErr, OnOk, OnErr};
 ghost use Rattle.std.specs.List.{AllByRecursion};
 ghost use Rattle.lsm_model.specs.Journal.{Map};
 ghost use Rattle.lsm_manifest.specs.Finding.{RefusesFound};
@@ -8,7 +8,7 @@ ghost use Rattle.lsm_store.specs.World.{Begins};
 ghost use Rattle.lsm_runs.specs.declared.steps.Step.{Step};
 ghost use Rattle.lsm_runs.specs.Told.{Told};
 ghost use Rattle.example_crash.specs.Single.{MayBeOpened, HasLived, HasTaken};
-ghost use Rattle.example_crash.specs.Survival.{IsUsual, IsWant, Survives, CanBeLeft, EndsWith};
+ghost use Rattle.example_crash.specs.Survival.{IsUsual, SurvivesOrWants, CrashesAsPicked};
 
 use crate::by_hand::crash_by_hand;
 use crate::lives::TwoLives;
@@ -163,8 +163,8 @@ pub fn crash_between_single_steps(
     second: &[Step],
 ) -> Result<Option<TwoLives>, Error>
     requires new { Begins (λ _. None) (world_of store) }
-    ensures survives { AllByRecursion IsUsual first.now → AllByRecursion IsUsual second.now → MatchResult result (λ r. IfSome r (λ l. Survives (take (length l.before.outcomes.items) first.now) l.before.outcomes.items (take (length l.after.outcomes.items) second.now) l.after.outcomes.items)) IsWant }
-    ensures crashed { IfOk result (λ r. MatchOption r ((told : List Told) × EndsWith (λ s. ¬ CanBeLeft picks.now s) store first.now told) (λ l. EndsWith (CanBeLeft picks.now) store first.now l.before.outcomes.items)) }
+    ensures survives { AllByRecursion IsUsual first.now → AllByRecursion IsUsual second.now → SurvivesOrWants first.now second.now result }
+    ensures crashed { CrashesAsPicked picks.now store first.now result }
 {
     crash_by_hand(alloc, store, 0, first, picks, 0, second)
 }

@@ -8,7 +8,7 @@ ghost use Rattle.lsm_iter.specs.Left.{left_of, held_in};
 ghost use Rattle.lsm_iter.specs.Puts.{PutsCursors, owned_of};
 ghost use Rattle.lsm_iter.specs.Sound.{IsSound};
 
-use crate::{End, Memtable, Version};
+use crate::{End, Memtable, Overlay, Version};
 use lsm_below::{InternalValue, Run, SeqNo, UserKey};
 use lsm_memtable::Span;
 use lsm_tables::Table;
