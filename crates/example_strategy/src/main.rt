@@ -25,11 +25,18 @@ fn merge_into_last(table_ids: HashSet<TableId>, config: &Config) -> Choice {
     })
 }
 
-/// The ids of all tables of a version.
-fn all_ids(alloc: Global, version: &Version) -> Result<HashSet<TableId>, AllocError> {
+/// The ids of all tables of a version, and one more.
+fn all_ids(
+    alloc: Global,
+    version: &Version,
+    guessed: Option<TableId>,
+) -> Result<HashSet<TableId>, AllocError> {
     let mut ids = HashSet::new(alloc);
     for table in version.iter_tables() {
         ids.insert(table.id())?;
+    }
+    if let Some(id) = guessed {
+        ids.insert(id)?;
     }
     Ok(ids)
 }
@@ -58,10 +65,7 @@ impl CompactionStrategy for MergeAtRuns {
         config: &Config,
         state: &CompactionState,
     ) -> Result<Choice, ChooseError> {
-        let mut ids = all_ids(alloc, version)?;
-        if let Some(id) = self.guessed {
-            ids.insert(id)?;
-        }
+        let ids = all_ids(alloc, version, self.guessed)?;
         // A table that an open merge works on would only be declined.
         let waits = version.l0().run_count() < self.runs || state.hidden_set().is_blocked(&ids);
         Ok(if waits {
