@@ -13,10 +13,6 @@ module _ {X : Type 0} {R : X → X → Ordering} (o : IsTotalOrder R) where
   pub flipped : (x y : X) (a : Ordering) → R x y ≡ a → R y x ≡ ordering_reverse a
   flipped x y a e = o.antisymm y x ∙ ap ordering_reverse e
 
-  -- an item may be replaced by one that ties with it
-  pub tied_left : (x y z : X) → R x y ≡ Equal → R x z ≡ R y z
-  tied_left x y z e = o.congr x y z e
-
   pub tied_right : (x y z : X) → R y z ≡ Equal → R x y ≡ R x z
   tied_right x y z e = o.antisymm x y ∙ ap ordering_reverse (o.congr y z x e) ∙ sym (o.antisymm x z)
 
@@ -26,19 +22,6 @@ module _ {X : Type 0} {R : X → X → Ordering} (o : IsTotalOrder R) where
   rises_at (x ∷ xs) zero (suc j) d h lt in_range = All-get_or (λ y. R x y ≡ Less) xs j d (omega arith) h.0
   rises_at (x ∷ xs) (suc i) zero d h lt in_range = absurd (omega arith)
   rises_at (x ∷ xs) (suc i) (suc j) d h lt in_range = rises_at xs i j d h.1 (omega arith) (omega arith)
-
-  less_not : (x y : X) (a : Ordering) → R x y ≡ Less → R y x ≡ a → ordering_reverse a ≡ Less
-  less_not x y a less is = ap ordering_reverse (sym is) ∙ (sym (o.antisymm x y) ∙ less)
-
-  -- the comparisons with e rise along the list
-  pub index_rises : (e a b : X) (r s : Ordering) → R a b ≡ Less → R a e ≡ r → R b e ≡ s → ordering_index r ≤ ordering_index s
-  index_rises e a b Less s less ra sb = omega arith
-  index_rises e a b Equal Less less ra sb = let no : Greater ≡ Less = less_not e b Less (sym (tied_left a e b ra) ∙ less) sb in absurd (cc no)
-  index_rises e a b Equal Equal less ra sb = omega arith
-  index_rises e a b Equal Greater less ra sb = omega arith
-  index_rises e a b Greater Less less ra sb = let no : Greater ≡ Less = less_not e b Less (o.trans e a b (flipped a e Greater ra) less) sb in absurd (cc no)
-  index_rises e a b Greater Equal less ra sb = let no : Equal ≡ Less = less_not e b Equal (o.trans e a b (flipped a e Greater ra) less) sb in absurd (cc no)
-  index_rises e a b Greater Greater less ra sb = omega arith
 
 -- a rising list after another, all of which comes before it
 pub rises_append : {X : Type 0} (R : X → X → Ordering) (xs ys : List X) → Rises R xs → Rises R ys → AllByRecursion (λ x. AllByRecursion (λ y. R x y ≡ Less) ys) xs → Rises R (xs ++ ys)

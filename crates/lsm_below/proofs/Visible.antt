@@ -179,11 +179,3 @@ is_top (x ∷ xs) key s e rises found = go (λ h. is_top xs key s e rises.1 h) (
             | inr rest ↦ top.greatest f rest f_key f_below
           ];
         }
-
-pub some_top : (xs : List InternalValue) (key : List ℕ) (s : ℕ) (r : Option (Bor InternalValue)) → Rises entry_cmp xs → option_copied r ≡ first (is_visible key s) xs → IfSome r (λ e. IsTop xs key s e.now)
-some_top xs key s (Some e) rises is = is_top xs key s e.now rises (sym is)
-some_top xs key s None rises is = tt
-
-pub none_there : (xs : List InternalValue) (key : List ℕ) (s : ℕ) (r : Option (Bor InternalValue)) → option_copied r ≡ first (is_visible key s) xs → IfNone r (HasNone xs key s)
-none_there xs key s (Some e) is = tt
-none_there xs key s None is = has_none xs key s (sym is)

@@ -9,13 +9,6 @@ use Rattle.std.specs.List.Sorted.{IsPartitionedBy, IsPartitionPoint, IsNonDecrea
 use Rattle.std.proofs.lemmas.Cmp.{nat_list_cmp_total}
 use Rattle.std.proofs.lemmas.Bool.{cases_lt, not-true, not-false}
 use Rattle.std.proofs.lemmas.List.{get_or-drop}
-use Rattle.lsm_below.specs.Orders.{not_le_reversed, not_lt_reversed}
-use Rattle.lsm_below.specs.Keys.{Bytes, bytes_cmp}
-use Rattle.lsm_below.specs.Sorted.{Rises}
-use Rattle.lsm_below.specs.Entries.{Entry, entry_cmp}
-use Rattle.lsm_below.specs.Lookups.{is_from, is_to}
-use Rattle.lsm_below.proofs.Rising.{rises_at, index_rises}
-use Rattle.lsm_below.proofs.Orders.{entry_total}
 
 -- ---- filters of a list that two places part
 
@@ -63,63 +56,4 @@ filter_between {X} p q xs start end low high =
     (λ j d lt in_range. rw (get_or-drop start xs j d) (high.0 (start + j) d (omega arith) (omega arith)))
     (λ j d le lt. rw (get_or-drop start xs j d) (high.1 (start + j) d (omega arith) (omega (arith, length-drop start xs)))))
 
--- a part that would begin after its end is empty
-pub part_from_min : {X : Type 0} (xs : List X) (start end : ℕ) → take (end - min start end) (drop (min start end) xs) ≡ take (end - start) (drop start xs)
-part_from_min xs start end =
-    elim (cases_lt start end) [
-      | inl lt ↦ let same : min start end ≡ start = omega arith in ap (λ k. take (end - k) (drop k xs)) same
-      | inr ge ↦
-          let none : end - min start end ≡ 0 = omega arith in
-          let none_either : end - start ≡ 0 = omega arith in
-          ap (λ n. take n (drop (min start end) xs)) none ∙ sym (ap (λ n. take n (drop start xs)) none_either)
-    ]
-
 -- ---- keys that rise pass a bound in one go
-
--- of two keys in order, the first compares no greater with any key
-no_greater : (a b e : Bytes) (n m : ℕ) (r : Ordering) → bytes_cmp a b ≡ r → ordering_then r (nat_cmp n m) ≡ Less → ordering_index (bytes_cmp a e) ≤ ordering_index (bytes_cmp b e)
-no_greater a b e n m Less is less = index_rises nat_list_cmp_total e a b _ _ is refl refl
-no_greater a b e n m Equal is less = let same = nat_list_cmp_total.congr a b e is in omega (arith, ap ordering_index same)
-no_greater a b e n m Greater is less = absurd (cc less)
-
-keys_rise : (xs : List Entry) (e : Bytes) → Rises entry_cmp xs → IsNonDecreasingBy (λ x. ordering_index (bytes_cmp x.key.user_key e)) xs
-keys_rise xs e rises i j d le in_range =
-    elim (cases_lt i j) [
-      | inl lt ↦ no_greater (get_or xs i d).key.user_key (get_or xs j d).key.user_key e (get_or xs j d).key.seqno (get_or xs i d).key.seqno _ refl (rises_at entry_total xs i j d rises lt in_range)
-      | inr ge ↦ let same : i ≡ j = omega arith in omega (arith, ap (λ k. ordering_index (bytes_cmp (get_or xs k d).key.user_key e)) same)
-    ]
-
--- what compares no greater than a lesser one is lesser
-lt_down : (r s : Ordering) → ordering_index r ≤ ordering_index s → is_lt s ≡ true → is_lt r ≡ true
-lt_down Less s le h = refl
-lt_down Equal Less le h = absurd (omega arith)
-lt_down Equal Equal le h = h
-lt_down Equal Greater le h = h
-lt_down Greater Less le h = absurd (omega arith)
-lt_down Greater Equal le h = h
-lt_down Greater Greater le h = h
-
-le_down : (r s : Ordering) → ordering_index r ≤ ordering_index s → is_le s ≡ true → is_le r ≡ true
-le_down Less s le h = refl
-le_down Equal s le h = refl
-le_down Greater Less le h = absurd (omega arith)
-le_down Greater Equal le h = absurd (omega arith)
-le_down Greater Greater le h = h
-
--- what lies outside a lower bound stands before what lies within it
-pub outside_first : (low : Bound Bytes) (xs : List Entry) → Rises entry_cmp xs → IsPartitionedBy (λ e. not (is_from low e.key.user_key)) xs
-outside_first (Included low) xs rises i j d le in_range outside = turned _ ∙ lt_down _ _ (keys_rise xs low rises i j d le in_range) (sym (turned _) ∙ outside)
-  where
-    turned : (k : Bytes) → not (is_le (bytes_cmp low k)) ≡ is_lt (bytes_cmp k low)
-    turned k = ap (λ o. not (is_le o)) (nat_list_cmp_total.antisymm low k) ∙ not_le_reversed (bytes_cmp k low)
-outside_first (Excluded low) xs rises i j d le in_range outside = turned _ ∙ le_down _ _ (keys_rise xs low rises i j d le in_range) (sym (turned _) ∙ outside)
-  where
-    turned : (k : Bytes) → not (is_lt (bytes_cmp low k)) ≡ is_le (bytes_cmp k low)
-    turned k = ap (λ o. not (is_lt o)) (nat_list_cmp_total.antisymm low k) ∙ not_lt_reversed (bytes_cmp k low)
-outside_first Unbounded xs rises i j d le in_range outside = absurd (cc outside)
-
--- what lies within an upper bound stands before what lies outside it
-pub within_first : (high : Bound Bytes) (xs : List Entry) → Rises entry_cmp xs → IsPartitionedBy (λ e. is_to high e.key.user_key) xs
-within_first (Included high) xs rises i j d le in_range within = le_down _ _ (keys_rise xs high rises i j d le in_range) within
-within_first (Excluded high) xs rises i j d le in_range within = lt_down _ _ (keys_rise xs high rises i j d le in_range) within
-within_first Unbounded xs rises i j d le in_range within = refl

@@ -21,7 +21,6 @@
 //! | `merger` | all entries of several sources, in order |
 //! | `mvcc_stream` | the first entry of each key |
 //! | `compaction_stream` | what a compaction keeps |
-//! | `lookup` | look-ups in entries that rise |
 //! | `number` | numbers as they are printed |
 //! | `laws` | what always holds of keys, entries and merges, each as the contract of a function |
 #![tactic(auto)]
@@ -36,7 +35,6 @@ mod key_range;
 mod laws;
 mod limits;
 mod list_source;
-mod lookup;
 mod merger;
 mod mvcc_stream;
 mod number;
@@ -61,7 +59,6 @@ pub use laws::{
 };
 pub use limits::{ENTRY_OVERHEAD, MAX_KEY_LEN, MAX_VALUE_LEN};
 pub use list_source::ListSource;
-pub use lookup::{entries_within, first_visible, places_within};
 pub use merger::Merger;
 pub use mvcc_stream::MvccStream;
 pub use number::{parse_number, plain_numbers_are_read};

@@ -1,7 +1,5 @@
 // What a crash leaves of a tree's files.
 ghost use Rattle.std.specs.Prelude.{List};
-ghost use Rattle.lsm_versions.specs.Levels.{SeenVersion};
-ghost use Rattle.lsm_commit.specs.Stored.{AreAmong, Leaves};
 ghost use Rattle.lsm_commit.specs.Contents.{FilesAreTables};
 ghost use Rattle.lsm_commit.specs.Opening.{StoredIsReady, OpeningStores, OpeningsPass, OpeningsSettle};
 ghost use Rattle.lsm_commit.specs.Foreign.{ForeignNamesSpare, AtRest};
@@ -15,11 +13,6 @@ use lsm_store::Store;
 /// While nothing is done a crash leaves one of the versions that are stored, and foreign names are as they are.
 pub fn crashes_leave_versions<S: Store>(store: &S)
     ensures { S.tells → AtRest (S.world store.now) }
-{}
-
-/// What a crash leaves in one call or in the next one, it leaves in both together.
-pub fn crashes_leave_either<S: Store>(old: &S, mid: &S, new: &S)
-    ensures { (first second both : List SeenVersion) → Leaves (S.world old.now) (S.world mid.now) first → Leaves (S.world mid.now) (S.world new.now) second → AreAmong first both → AreAmong second both → Leaves (S.world old.now) (S.world new.now) both }
 {}
 
 /// Where the contents that are written are the files of tables, under the tables' ids, the tables are on the disk.

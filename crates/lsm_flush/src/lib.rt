@@ -20,6 +20,6 @@ mod source;
 pub use jobs::{FlushJob, MergedFlush, Registered, WrittenFlush};
 pub use merging::merge_memtables;
 pub use open_flush::OpenFlush;
-pub use same::{same_entries, same_ids, same_tables};
+pub use same::{same_entries, same_tables};
 pub use sealed::SealedMemtable;
 pub use source::MemtableSource;

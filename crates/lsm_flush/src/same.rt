@@ -5,21 +5,6 @@ use lsm_below::{has_same_parts, have_same_parts};
 use lsm_memtable::{Iter, Memtable};
 use lsm_tables::Table;
 
-/// Whether two lists of ids are the same.
-pub fn same_ids(left: &[u64], right: &[u64]) -> bool
-    ensures { IsTrue result ↔ (left.now ≡ right.now) }
-{
-    if left.len() != right.len() {
-        return false;
-    }
-    for at in 0..left.len() {
-        if left[at] != right[at] {
-            return false;
-        }
-    }
-    true
-}
-
 fn same_table(left: &Table, right: &Table) -> bool
     ensures { IsTrue result ↔ (left.now ≡ right.now) }
 {

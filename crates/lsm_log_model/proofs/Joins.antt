@@ -8,21 +8,20 @@ use Rattle.lsm_model.specs.Journal.{Map, InOrder, next_number, next_number_after
 use Rattle.lsm_model.specs.Steps.{State, Action, Wrote, Rotated, Flushed, Merged, Moved, DroppedTables, Cleared, Marked, LostDrop, Asked, Maintained, Step}
 use Rattle.lsm_model.specs.Soundness.{Soundness}
 use Rattle.lsm_model.specs.Laws.{MapsAreRead, PartsAreWhole, TablesArePlaced}
-use Rattle.lsm_model.specs.Beginnings.{Saved, Deed, Done, Lost, Deeds, is_commit, told_lost}
+use Rattle.lsm_model.specs.Beginnings.{is_commit, told_lost}
 use Rattle.lsm_model.specs.declared.journal.JournalEntry.TheVariants.{Write}
 use Rattle.lsm_model.proofs.Above.{above_each}
-use Rattle.lsm_model.proofs.Crashes.{deeds_grow}
 use Rattle.lsm_model.proofs.Journals.{next_of-le}
 use Rattle.lsm_log_model.specs.Records.{Batch, entries_of, LogImage, logged, opened_by}
-use Rattle.lsm_log_model.specs.Logs.{Logged, MayBeDrawn, is_write, next_from, did, doubted, Act, Batched, BatchLost, Did, CommitLost, Acts, AllActs, MayLeave, MayBeLeft}
-use Rattle.lsm_log_model.specs.Joins.{ActsJoin, DrawsBelow, CounterStaysAbove, act_of, lifted, Lifts, DeedsAreActs}
+use Rattle.lsm_log_model.specs.Logs.{Logged, MayBeDrawn, is_write, next_from, Act, Batched, BatchLost, Did, CommitLost, Acts, AllActs, MayLeave, MayBeLeft}
+use Rattle.lsm_log_model.specs.Joins.{ActsJoin, DrawsBelow, CounterStaysAbove}
 use Rattle.lsm_log_model.proofs.Stacks.{above-append}
 use Rattle.lsm_log_model.proofs.Batches.{each_entry, since_each}
 use Rattle.lsm_log_model.proofs.Orders.{number_writes}
 use Rattle.lsm_log_model.proofs.Writes.{run_journal, deeds_run}
 use Rattle.lsm_log_model.proofs.Following.{mems_below}
 use Rattle.lsm_log_model.proofs.Growth.{act_grown}
-use Rattle.lsm_log_model.proofs.Kept.{IsKept, act_kept}
+use Rattle.lsm_log_model.proofs.Kept.{IsKept}
 use Rattle.lsm_log_model.proofs.Crashes.{from_opened}
 
 -- ---- acts
@@ -138,33 +137,6 @@ module _ (opened : List Entry) where
 
 module _ (theory : Soundness) (maps : MapsAreRead) (whole : PartsAreWhole) (placed : TablesArePlaced) where
   module _ (opened : List Entry) (start : Map) where
-    lift : (old : Logged) (deeds : List Deed) (tree : Saved) (c : ℕ) → IsKept opened start old → (d : Deeds opened old.tree deeds tree) → InOrder opened tree.state.journal → MayBeDrawn opened old c → Lifts c opened old deeds tree d
-        → AllActs opened old (map act_of deeds) (lifted opened old deeds tree d)
-    lift old [] tree c k d o n l = ap (λ (t : Saved). record old { tree = t }) d
-    lift old (Done action ∷ deeds) tree c k d o n l =
-        let mid = did old action d.0 in
-        let act : Acts opened old (Did action) mid = record { silent = l.0; certain = λ q. (d.1.certain q, (l.1 q).0); drawn = λ q. drawn_later opened old c d.0.state.latest.number (l.1 q).1 n; done = d.1; rest = refl } in
-        let g = deeds_grow opened d.0 deeds tree d.2 in
-        let before : InOrder opened d.0.state.journal = theory.kept.front opened d.0.state.journal g.more (subst (InOrder opened) g.journal o) in
-        let next = cond (is_commit action) (d.0.state.latest.number + 1) c in
-        let counter : (c ≤ next) × (is_commit action ≡ true → d.0.state.latest.number < next) = elim (is_commit action) as (λ b. (b ≡ true → (old.lost ≡ None) × (c ≤ d.0.state.latest.number)) → (c ≤ cond b (d.0.state.latest.number + 1) c) × (b ≡ true → d.0.state.latest.number < cond b (d.0.state.latest.number + 1) c)) [
-          | true ↦ λ h. (let z = (h refl).1 in omega arith, λ q. omega arith)
-          | false ↦ λ h. (omega arith, λ q. absurd (cc q))
-        ] l.1 in
-        (mid, act, lift mid deeds tree next (act_kept theory maps whole placed opened start old (Did action) mid act before k) d.2 o (next_act opened start old (Did action) mid c next k act n counter.0 counter.1) l.2)
-    lift old (Lost action would ∷ deeds) tree c k d o n l =
-        let mid = doubted old action d.0 in
-        let act : Acts opened old (CommitLost action would) mid = record { certain = (d.1.certain, l.0); drawn = drawn_later opened old c would.latest.number l.1 n; lost = d.1; rest = refl } in
-        let g = deeds_grow opened d.0 deeds tree d.2 in
-        let before : InOrder opened d.0.state.journal = theory.kept.front opened d.0.state.journal g.more (subst (InOrder opened) g.journal o) in
-        let high = l.1 in
-        (mid, act, lift mid deeds tree (would.latest.number + 1) (act_kept theory maps whole placed opened start old (CommitLost action would) mid act before k) d.2 o (next_act opened start old (CommitLost action would) mid c (would.latest.number + 1) k act n (omega arith) (omega arith)) l.2)
-
-  pub deeds_are_acts : DeedsAreActs
-  deeds_are_acts image first old earlier deeds tree c stands r ran d o n l =
-      let g = deeds_grow (opened_by image) old.tree deeds tree d in
-      let before = theory.kept.front (opened_by image) old.tree.state.journal g.more (subst (InOrder (opened_by image)) g.journal o) in
-      lift (opened_by image) (logged image) old deeds tree c (from_opened theory maps whole placed image stands first earlier old r ran before) d o n l
 
   pub counter_stays : CounterStaysAbove
   counter_stays = record {

@@ -48,26 +48,9 @@ pub record CounterStaysAbove : Type 0 where
 
 -- ---- deeds of the tree
 
--- the act that a deed of the tree is
-abbrev pub act_of : Deed → Act
-act_of (Done action) = Did action
-act_of (Lost action would) = CommitLost action would
-
--- the log beside a tree that did these deeds
-abbrev pub lifted : (opened : List Entry) (old : Logged) (deeds : List Deed) (tree : Saved) → Deeds opened old.tree deeds tree → Logged
-lifted opened old [] tree d = record old { tree = tree }
-lifted opened old (Done action ∷ deeds) tree d = lifted opened (did old action d.0) deeds tree d.2
-lifted opened old (Lost action would ∷ deeds) tree d = lifted opened (doubted old action d.0) deeds tree d.2
-
 -- deeds that write nothing, each commit of which draws its number from this one on, where no batch has unknown outcome
 abbrev pub Lifts : (c : ℕ) (opened : List Entry) (old : Logged) (deeds : List Deed) (tree : Saved) → Deeds opened old.tree deeds tree → Type 0
 Lifts c opened old [] tree d = Unit {0}
 Lifts c opened old (Done action ∷ deeds) tree d = (is_write action ≡ false) × (is_commit action ≡ true → (old.lost ≡ None) × (c ≤ d.0.state.latest.number))
     × Lifts (if is_commit action then d.0.state.latest.number + 1 else c) opened (did old action d.0) deeds tree d.2
 Lifts c opened old (Lost action would ∷ deeds) tree d = (old.lost ≡ None) × (c ≤ would.latest.number) × Lifts (would.latest.number + 1) opened (doubted old action d.0) deeds tree d.2
-
--- such deeds are acts
-abbrev pub DeedsAreActs : Type 0
-DeedsAreActs = (image : LogImage) (first old : Logged) (earlier : List Act) (deeds : List Deed) (tree : Saved) (c : ℕ) → LogStands image → IsReopened image first → AllActs (opened_by image) first earlier old
-    → (d : Deeds (opened_by image) old.tree deeds tree) → InOrder (opened_by image) tree.state.journal → MayBeDrawn (opened_by image) old c → Lifts c (opened_by image) old deeds tree d
-    → AllActs (opened_by image) old (map act_of deeds) (lifted (opened_by image) old deeds tree d)

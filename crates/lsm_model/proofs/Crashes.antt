@@ -10,7 +10,7 @@ use Rattle.lsm_model.specs.Journal.{Event, Map, InOrder}
 use Rattle.lsm_model.specs.Views.{Placed, held, shown, seen, view, view_at, IsLaidOut, IsIn, ranges_of, HasDistinctIds}
 use Rattle.lsm_model.specs.Steps.{State, among, Action, Flushed, Merged, Moved, DroppedTables, Cleared, LostDrop, Step}
 use Rattle.lsm_model.specs.Sound.{Holds}
-use Rattle.lsm_model.specs.Beginnings.{is_spared, Note, ClearLost, sealed_at, covered, SealedAt, FlushedIds, ClearedTo, shown_by, Stands, Recovers, Saved, versions, Deed, Done, Lost, is_commit, noted_by, noted_lost, told_lost, Does, Deeds, IsStart, EveryCrashRecovers, EachDeedRecovers, EveryDeedReadsRight, BeginningsAnswer, beginning, IsBeginning, DeedsJoin, DeedsSplit, CoverLasts, OpeningStarts, ShownAbove, IsFound, Life, LivesWell, AnyNumberOfCrashes}
+use Rattle.lsm_model.specs.Beginnings.{is_spared, Note, ClearLost, sealed_at, covered, SealedAt, FlushedIds, ClearedTo, shown_by, Stands, Recovers, Saved, versions, Deed, Done, Lost, is_commit, noted_by, noted_lost, told_lost, Does, Deeds, IsStart, EveryCrashRecovers, beginning, IsBeginning, DeedsJoin, DeedsSplit, OpeningStarts, ShownAbove, IsFound}
 use Rattle.lsm_model.specs.declared.journal.JournalEntry.TheVariants.{Clear, Dropped}
 use Rattle.lsm_below.specs.Each.{each_weaker}
 use Rattle.lsm_below.specs.Members.{each_in}
@@ -19,8 +19,8 @@ use Rattle.lsm_model.proofs.Stacks.{falling_right, falling_sub, single_right, si
 use Rattle.lsm_model.proofs.Journals.{in_order_front}
 use Rattle.lsm_model.proofs.Merges.{of_tables}
 use Rattle.lsm_model.proofs.Commits.{stack_of}
-use Rattle.lsm_model.proofs.Answers.{get-map_of, answers_agree}
-use Rattle.lsm_model.proofs.Runs.{joined_map, step_holds, step_grows, opened_holds, reads_right}
+use Rattle.lsm_model.proofs.Answers.{get-map_of}
+use Rattle.lsm_model.proofs.Runs.{joined_map, step_holds, step_grows, opened_holds}
 use Rattle.lsm_model.proofs.Beginnings.{begun_after, newest_seen, Begins, spared_all, spared_more, fall_covered, tails_tables}
 use Rattle.lsm_model.proofs.Wholes.{get-beginning, below_above, get-shown_by, stands_of}
 use Rattle.lsm_model.proofs.Carries.{Carries, Puts, flush_puts, merge_puts, move_puts, drop_puts, step_carries, lost_carries}
@@ -64,9 +64,6 @@ begins_on start journal more notes extra least less m l r =
 
 recovers_more : (start : Map) (journal more : List Event) (notes extra : List Note) (least less : ℕ) (tables : List Placed) → less ≤ least → Recovers start journal notes least tables → Recovers start (journal ++ more) (extra ++ notes) less tables
 recovers_more start journal more notes extra least less tables l r = record { stands = r.stands; begins = begins_on start journal more notes extra least less (shown_by tables) l r.begins }
-
-pub beginnings_answer : BeginningsAnswer
-beginnings_answer start journal notes least m b question = answers_agree m (beginning start b.front) (λ k. is_spared k b.front (drop b.place journal)) b.shows question
 
 stands_held : (opened : List Entry) (start : Map) (t : State) → HasDistinctIds t.latest.tables → Holds opened start t → Stands t.latest.tables
 stands_held opened start t distinct h =
@@ -273,12 +270,6 @@ every_crash opened start first old new earlier call s ran done order left found 
     let before = grown_order opened old new (deeds_grow opened old call new done) order in
     found_recovers opened start old call new done (covered old.notes) left order (omega arith) (deeds_begun opened start first earlier old ran before (start_begun opened start first s)) found
 
-pub each_deed_recovers : EachDeedRecovers
-each_deed_recovers opened start first old new earlier deed s ran d order left found = every_crash opened start first old new earlier (deed ∷ []) s ran (new, d, refl) order left found
-
-pub deeds_read : EveryDeedReadsRight
-deeds_read opened start first new deeds s d order = reads_right opened start new.state (deeds_begun opened start first deeds new d order (start_begun opened start first s)).holds
-
 -- what is found at the end is found on the way
 found_first : (left : List Placed) (opened : List Entry) (old : Saved) (call : List Deed) (new : Saved) (done : Deeds opened old call new) → IsIn left (versions old) → IsFound left opened old call new done
 found_first left opened old [] new d i = i
@@ -300,12 +291,6 @@ join opened old mid new (x ∷ xs) ys d e =
 pub split : DeedsSplit
 split opened old new [] ys d = (old, refl, d)
 split opened old new (x ∷ xs) ys d = let r = split opened d.0 new xs ys d.2 in (r.0, (d.0, d.1, r.1), r.2)
-
-pub cover_lasts : CoverLasts
-cover_lasts opened start first old new earlier more s ran d order =
-    let g = deeds_grow opened old more new d in
-    let b = deeds_begun opened start old more new d order (deeds_begun opened start first earlier old ran (grown_order opened old new g order) (start_begun opened start first s)) in
-    (rw g.notes (more_covered g.extra old.notes), fall_covered new.notes (length new.state.journal) new.state.latest.sealed b.carries.fall)
 
 -- ---- opening again
 
@@ -339,23 +324,6 @@ shown_above tables s h = same_map nat_list_cmp_total (slice_cmp-IsAntisymmetric 
     ∙ ap (λ es. seen s (stack k es)) (joined_map (λ (p : Placed). p.table.entries) tables)
     ∙ sym (newest_seen s (of_tables k tables) (each_weaker _ _ (λ e q. omega arith) (of_tables k tables) (below_above k (held tables))))
     ∙ sym (get-shown_by tables k))
-
-life_well : (first left : List Placed) → Stands first → (life : Life first left) → LivesWell first left life
-life_well first left stands life =
-    let opened = held first in
-    let start = shown_by first in
-    let s = opening first life.fresh stands life.is_fresh in
-    let before = grown_order opened life.old life.new (deeds_grow opened life.old life.call life.new life.done) life.order in
-    let b = deeds_begun opened start life.fresh life.earlier life.old life.ran before (start_begun opened start life.fresh s) in
-    record {
-      reads = reads_right opened start life.new.state (deeds_begun opened start life.old life.call life.new life.done life.order b).holds;
-      recovers = found_recovers opened start life.old life.call life.new life.done (covered life.old.notes) left life.order (omega arith) b life.found;
-    }
-
-pub any_number : AnyNumberOfCrashes
-any_number first stands [] lives = tt
-any_number first stands (left ∷ more) lives =
-    let well = life_well first left stands lives.0 in (well, any_number left well.recovers.stands more lives.1)
 
 -- no tables stand for a map
 pub no_tables_stand : Stands []

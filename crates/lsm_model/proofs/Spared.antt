@@ -7,14 +7,14 @@ use Rattle.lsm_below.specs.Entries.{Entry, stack}
 use Rattle.lsm_model.specs.Journal.{Map, InOrder}
 use Rattle.std.specs.List.{AllByRecursion}
 use Rattle.lsm_model.specs.Views.{view, front, found_at, seen, SuperVersion, sources, entries, lookup, emptied, Memtables, pushed}
-use Rattle.lsm_model.specs.Steps.{State, history, Action, Wrote, Rotated, Flushed, Merged, Moved, DroppedTables, Cleared, Marked, LostDrop, Asked, Maintained, Step, Run, IsWrite, Spares, StaysAt, StepsSpareAnswers}
+use Rattle.lsm_model.specs.Steps.{State, history, Action, Wrote, Rotated, Flushed, Merged, Moved, DroppedTables, Cleared, Marked, LostDrop, Asked, Maintained, Step, Run, IsWrite, Spares, StaysAt}
 use Rattle.lsm_model.specs.Sound.{HasIds, Holds}
 use Rattle.lsm_model.proofs.Lists.{each_found}
 use Rattle.lsm_model.proofs.Journals.{floor-le}
 use Rattle.lsm_model.proofs.Sound.{seen_pushed}
 use Rattle.lsm_model.proofs.Installs.{ShowsSame, lookup_cases, lookup_latest, lookup_older, entries_emptied, emptied_here, rotated}
 use Rattle.lsm_model.proofs.Commits.{found_still}
-use Rattle.lsm_model.proofs.Runs.{write_pushed, flushed, merged, moved, run_holds, step_holds, step_order, run_order, opened_holds, get-view, seen_zero, stack_entries, same_sources}
+use Rattle.lsm_model.proofs.Runs.{write_pushed, flushed, merged, moved, step_holds, run_order, get-view, seen_zero, stack_entries, same_sources}
 
 pub Alike : Bytes → ℕ → State → State → Type 0
 Alike k s old new = (sv sv' : SuperVersion) → lookup s (history old) ≡ Some sv → lookup s (history new) ≡ Some sv' → seen s (stack k (entries old.mems sv)) ≡ seen s (stack k (entries new.mems sv'))
@@ -100,10 +100,6 @@ step_spares opened start s old action new step order spares h sv sv' found found
       | false ↦ λ z f g. spared opened start k s old action new step order spares h sv sv' f g
     ] refl found found')
     ∙ sym (get-view k s new.mems sv'))
-
-pub steps_spare : StepsSpareAnswers
-steps_spare opened start first old new actions action s o r step order spares =
-    step_spares opened start s old action new step order spares (run_holds opened start first actions old r (step_order opened old action new step order) (opened_holds opened start first o))
 
 -- the same super versions and memtables
 pub stays : (s : ℕ) (old new : State) → new.mems ≡ old.mems → new.latest ≡ old.latest → new.older ≡ old.older → StaysAt s old new

@@ -3,11 +3,10 @@ use Rattle.std.specs.Prelude.{◌≡◌, ℕ, ◌+◌, ◌≤◌, max, Bool, tru
 use Rattle.std.specs.FinMap.{empty, get}
 use Rattle.lsm_below.specs.Keys.{Bytes, is_same}
 use Rattle.lsm_below.specs.Entries.{Entry, above, stack, IsOrdered, IsSingle}
-use Rattle.lsm_model.specs.Journal.{in_any, Event, Map, answer, cut, changed, InOrder}
+use Rattle.lsm_model.specs.Journal.{in_any, Event, Map, changed, InOrder}
 use Rattle.lsm_model.specs.Views.{view, Placed, held, IsLaidOut, ranges_of, IsIn, HasDistinctIds}
 use Rattle.lsm_model.specs.Steps.{State, among, Action, Rotated, Flushed, Merged, Moved, DroppedTables, Cleared, LostDrop, Step, IsOpened, ReadsEqualReplay}
 use Rattle.lsm_model.specs.declared.journal.JournalEntry.TheVariants.{Write, Clear, Install, Dropped, Mark, Read}
-use Rattle.lsm_model.specs.declared.question.Question.{Question}
 
 -- ---- beginnings
 
@@ -111,12 +110,6 @@ pub record Recovers (start : Map) (journal : List Event) (notes : List Note) (le
   pub stands : Stands tables
   pub begins : IsBeginning start journal notes least (shown_by tables)
 
--- a map that is a beginning of the calls answers each question as that beginning does, outside dropped ranges
-abbrev pub BeginningsAnswer : Type 0
-BeginningsAnswer = (start : Map) (journal : List Event) (notes : List Note) (least : ℕ) (m : Map) (b : IsBeginning start journal notes least m) (question : Question)
-    → let out = λ (k : Bytes). is_spared k b.front (drop b.place journal) in
-    cut out question (answer m question) ≡ cut out question (answer (beginning start b.front) question)
-
 -- ---- deeds
 
 -- a tree with its notes, and with the tables that a crash may show in place of the latest ones
@@ -215,15 +208,6 @@ abbrev pub EveryCrashRecovers : Type 0
 EveryCrashRecovers = (opened : List Entry) (start : Map) (first old new : Saved) (earlier call : List Deed) → IsStart opened start first → Deeds opened first earlier old → (done : Deeds opened old call new) → InOrder opened new.state.journal
     → (left : List Placed) → IsFound left opened old call new done → Recovers start new.state.journal new.notes (covered old.notes) left
 
--- after any deeds from an opened tree the reads are right, also after a commit of unknown outcome
-abbrev pub EveryDeedReadsRight : Type 0
-EveryDeedReadsRight = (opened : List Entry) (start : Map) (first new : Saved) (deeds : List Deed) → IsStart opened start first → Deeds opened first deeds new → InOrder opened new.state.journal → ReadsEqualReplay opened start new.state
-
--- around one deed the old tables and the new ones show a beginning that holds all that was acknowledged before the deed
-abbrev pub EachDeedRecovers : Type 0
-EachDeedRecovers = (opened : List Entry) (start : Map) (first old new : Saved) (earlier : List Deed) (deed : Deed) → IsStart opened start first → Deeds opened first earlier old → Does opened old deed new → InOrder opened new.state.journal
-    → (left : List Placed) → IsIn left (versions old) ⊎ IsIn left (versions new) → Recovers start new.state.journal new.notes (covered old.notes) left
-
 -- deeds after deeds are deeds, in which all that is found in either is found
 abbrev pub DeedsJoin : Type 0
 DeedsJoin = (opened : List Entry) (old mid new : Saved) (xs ys : List Deed) (d : Deeds opened old xs mid) (e : Deeds opened mid ys new)
@@ -232,11 +216,6 @@ DeedsJoin = (opened : List Entry) (old mid new : Saved) (xs ys : List Deed) (d :
 -- deeds can be cut anywhere
 abbrev pub DeedsSplit : Type 0
 DeedsSplit = (opened : List Entry) (old new : Saved) (xs ys : List Deed) → Deeds opened old (xs ++ ys) new → (mid : Saved) × Deeds opened old xs mid × Deeds opened mid ys new
-
--- what is covered stays so, and is a place of the journal
-abbrev pub CoverLasts : Type 0
-CoverLasts = (opened : List Entry) (start : Map) (first old new : Saved) (earlier more : List Deed) → IsStart opened start first → Deeds opened first earlier old → Deeds opened old more new → InOrder opened new.state.journal
-    → (covered old.notes ≤ covered new.notes) × (covered new.notes ≤ length new.state.journal)
 
 -- ---- opening again
 
@@ -286,7 +265,3 @@ Lives first (left ∷ more) = Life first left × Lives left more
 abbrev pub AllLiveWell : (first : List Placed) (lefts : List (List Placed)) → Lives first lefts → Type 0
 AllLiveWell first [] lives = Unit {0}
 AllLiveWell first (left ∷ more) lives = LivesWell first left lives.0 × AllLiveWell left more lives.1
-
--- from tables that stand, life after life goes well, whatever each crash leaves
-abbrev pub AnyNumberOfCrashes : Type 0
-AnyNumberOfCrashes = (first : List Placed) → Stands first → (lefts : List (List Placed)) (lives : Lives first lefts) → AllLiveWell first lefts lives

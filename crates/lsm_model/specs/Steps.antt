@@ -184,11 +184,6 @@ Spares (Maintained w) new s = Unit {0}
 abbrev pub StaysAt : ℕ → State → State → Type 0
 StaysAt s old new = (sv sv' : SuperVersion) → found_at s old.latest old.older ≡ Some sv → found_at s new.latest new.older ≡ Some sv' → view s (sources old.mems sv) ≡ view s (sources new.mems sv')
 
--- a step that is to leave the answers at a snapshot leaves them
-abbrev pub StepsSpareAnswers : Type 0
-StepsSpareAnswers = (opened : List Entry) (start : Map) (first old new : State) (actions : List Action) (action : Action) (s : ℕ)
-    → IsOpened opened start first → Run opened first actions old → Step opened old action new → InOrder opened new.journal → Spares action new s → StaysAt s old new
-
 -- by what the journal tells: a write, a clear or a drop leaves what snapshots see that aren't above its sequence number, all else leaves all
 abbrev pub IsSparedBy : ℕ → Event → Type 0
 IsSparedBy s (Write e) = s ≤ e.key.seqno

@@ -187,10 +187,6 @@ abbrev pub placed_from : ℕ → List (List (List Table)) → List Placed
 placed_from level [] = []
 placed_from level (runs ∷ levels) = map (placed_at level) (flat_map (λ r. r) runs) ++ placed_from (level + 1) levels
 
--- the rules for joined runs give what the reads need
-abbrev pub ReorderedIsRearranged : Type 0
-ReorderedIsRearranged = (old new : List Placed) → HasDistinctIds old → IsReordered old new → IsRearranged old new
-
 -- tables of levels stand by rising level
 abbrev pub LevelsRise : Type 0
 LevelsRise = (level : ℕ) (levels : List (List (List Table))) → EachPair (λ p q. p.level ≤ q.level) (placed_from level levels)

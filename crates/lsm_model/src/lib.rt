@@ -18,10 +18,9 @@ mod repeats;
 
 pub use journal::{JournalEntry, KeyRanges};
 pub use laws::{
-    any_number_of_crashes, beginnings_answer, counted_is_in_order, cover_lasts, deeds_join,
-    each_deed_recovers, every_crash_recovers, every_deed_reads_right, every_run_reads_right,
-    joined_runs_show_the_same, levels_rise, maps_are_read, opening_starts, parts_are_whole,
-    reads_are_sound, steps_spare_answers, tables_are_placed, tables_show_above,
+    counted_is_in_order, deeds_join,
+    every_crash_recovers, every_run_reads_right,     levels_rise, maps_are_read, opening_starts, parts_are_whole,
+    reads_are_sound, tables_are_placed, tables_show_above,
 };
 pub use op::{Op, Ops};
 pub use question::{Answer, KeyBound, KvPairs, Question};

@@ -46,13 +46,6 @@ impl Pass {
         }
     }
 
-    /// The entries with their places, as a list of its own.
-    pub fn into_entries(self) -> Vec<(u64, SharedEntry)>
-        ensures { result.items ≡ self }
-    {
-        self.entries
-    }
-
     /// The entries with their places.
     pub fn entries(&self) -> &[(u64, SharedEntry)]
         ensures { result.now ≡ self.now }

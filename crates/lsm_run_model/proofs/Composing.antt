@@ -11,8 +11,8 @@ use Rattle.lsm_model.specs.Soundness.{Soundness}
 use Rattle.lsm_model.specs.Beginnings.{Saved, Deed, Done, Lost, Deeds, IsFound, IsBeginning, Recovers, EveryCrashRecovers, DeedsJoin, versions, covered, shown_by}
 use Rattle.lsm_model.proofs.Crashes.{deeds_grow}
 use Rattle.lsm_run_model.specs.Outcomes.{Told, Past, after, after_all, without_low_reads}
-use Rattle.lsm_run_model.specs.Moments.{HoldsBeginning, EachMoment, last_of}
-use Rattle.lsm_run_model.specs.Composing.{past_of, IsRight, CameAbout, Point, StandsAt, FindsAmong, IsOfEither, DoesCall, EachDoes, TablesShow, AreNumbered, Composed, RunsCompose, EachHasDeeds, ReadsStayRight}
+use Rattle.lsm_run_model.specs.Moments.{HoldsBeginning, EachMoment}
+use Rattle.lsm_run_model.specs.Composing.{past_of, IsRight, CameAbout, Point, StandsAt, FindsAmong, IsOfEither, DoesCall, EachDoes, TablesShow, AreNumbered, Composed, RunsCompose}
 use Rattle.lsm_run_model.proofs.Numbers.{IsSmall, deeds_small, start_small, front_numbered}
 
 -- ---- journals
@@ -154,28 +154,3 @@ runs_compose theory crashes join R Finds Shows world opened start n told first p
 -- ---- reads alone
 
 module _ (theory : Soundness) (opened : List Entry) (start : Map) where
-  right_behind : (old new : Saved) (ds : List Deed) → Deeds opened old ds new → InOrder opened new.state.journal → IsRight opened start old → IsRight opened start new
-  right_behind old new ds d o r = record { holds = theory.kept.deeds opened start old ds new d o r.holds; distinct = distinct_behind opened ds old new d r.distinct }
-
-  stay_right : {R : Type 0} (told : List (Told R)) (first : Saved) (trees : List Saved) → IsRight opened start first → EachHasDeeds opened start told first trees → InOrder opened (after_all opened (past_of first) told).journal
-      → AllByRecursion (IsRight opened start) (first ∷ trees) × (past_of (last_of first trees) ≡ after_all opened (past_of first) told)
-  stay_right [] first [] r each o = ((r, tt), refl)
-  stay_right [] first (new ∷ trees) r each o = absurd each
-  stay_right (t ∷ told) first [] r each o = absurd each
-  stay_right (t ∷ told) first (new ∷ trees) r each o =
-      let next : Past = after opened (past_of first) t in
-      let g = journal_grows opened next told in
-      let here : InOrder opened next.journal = theory.kept.front opened next.journal g.0 (subst (InOrder opened) g.1 o) in
-      let d = each.0 r here in
-      let rest = stay_right told new trees (right_behind first new d.0 d.1 (subst (λ (p : Past). InOrder opened p.journal) (sym d.2) here) r) each.1 (subst (λ (p : Past). InOrder opened (after_all opened p told).journal) (sym d.2) o) in
-      ((r, rest.0), rest.1 ∙ ap (λ (p : Past). after_all opened p told) d.2)
-
-  deeds_front : {R : Type 0} (many : ℕ) (told : List (Told R)) (first : Saved) (trees : List Saved) → EachHasDeeds opened start told first trees → EachHasDeeds opened start (take many told) first (take many trees)
-  deeds_front zero told first trees each = tt
-  deeds_front (suc many) [] first [] each = tt
-  deeds_front (suc many) [] first (new ∷ trees) each = absurd each
-  deeds_front (suc many) (t ∷ told) first [] each = absurd each
-  deeds_front (suc many) (t ∷ told) first (new ∷ trees) each = (each.0, deeds_front many told new trees each.1)
-
-pub reads_stay_right : Soundness → (R : Type 0) → ReadsStayRight R
-reads_stay_right theory R opened start told first trees r each many o = stay_right theory opened start (take many told) first (take many trees) r (deeds_front theory opened start many told first trees each) o

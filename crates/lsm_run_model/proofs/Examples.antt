@@ -12,9 +12,7 @@ use Rattle.lsm_model.specs.Steps.{Wrote, Rotated, Flushed as Flushing, Cleared a
 use Rattle.lsm_model.specs.Soundness.{Soundness}
 use Rattle.lsm_model.specs.Laws.{MapsAreRead}
 use Rattle.lsm_model.specs.Beginnings.{Note, SealedAt, FlushedIds, ClearLost, covered, Saved, Done, Lost, IsStart, IsBeginning, EveryCrashRecovers, DeedsJoin, OpeningStarts, Stands, is_spared, beginning, shown_by, versions}
-use Rattle.lsm_model.specs.declared.journal.JournalEntry.TheVariants.{Write, Clear, Install, Dropped, Read}
-use Rattle.lsm_model.specs.declared.question.Question.TheVariants.{Get, Between}
-use Rattle.lsm_model.specs.declared.question.Answer.TheVariants.{Found, Pairs}
+use Rattle.lsm_model.specs.declared.journal.JournalEntry.TheVariants.{Write, Clear, Install, Dropped}
 use Rattle.lsm_model.proofs.Examples.{key, set0, table, sv, state, m0, kept_one}
 use Rattle.lsm_model.proofs.CrashExamples.{saved, a3, a2, a1, cleared}
 use Rattle.lsm_model.proofs.Crashes.{no_tables_stand}
@@ -24,7 +22,6 @@ use Rattle.lsm_run_model.specs.Moments.{EachMoment, HoldsBeginning}
 use Rattle.lsm_run_model.specs.Composing.{Point, past_of, FindsAmong, IsOfEither, EachDoes, Composed, TablesShow}
 use Rattle.lsm_run_model.specs.Lives.{Crashed, Knowledge, LifeAfterLife, Running, Reads, AllGoWell}
 use Rattle.lsm_run_model.specs.Rising.{Drawing, Silent, Own, Raises, Reserves, Draws, At, UpTo, RisesFrom, highest, Asks, WeakOnce}
-use Rattle.lsm_run_model.specs.Repeating.{ReadsShareAMap}
 use Rattle.lsm_run_model.proofs.Composing.{runs_compose}
 use Rattle.lsm_run_model.proofs.Lives.{any_number}
 
@@ -383,25 +380,3 @@ holds_of_the_first theory crashes join = runs_compose theory crashes join ℕ Fi
     3
     (record { before = omega arith; written = (omega arith, (tt, tt)) })
     (record { after_installs = omega arith; after_own = omega arith; single = λ w. omega arith }, (omega arith, tt))
-
--- ---- reads at one snapshot
-
-all_of : {A : Type 0} (es : List A) → filter (λ e. true) es ≡ es
-all_of [] = refl
-all_of (e ∷ es) = ap (λ xs. e ∷ xs) (all_of es)
-
--- a key that is found alone stands in a range of all keys
-found_and_not_listed : ReadsShareAMap (Read 2 (Get key) (Found (Some (7 ∷ []))) ∷ (Read 2 (Between Unbounded Unbounded) (Pairs []) ∷ [])) → ⊥
-found_and_not_listed share =
-    let m = share 2 (Get key) (Between Unbounded Unbounded) (Found (Some (7 ∷ []))) (Pairs []) [] [] [] refl tt in
-    let listed : [] ≡ filter (λ e. true) (entries m.0) = cc m.2 in
-    let found : Some (7 ∷ []) ≡ get m.0 key = cc m.1 in
-    cc (found ∙ get-entries m.0 key ∙ ap (find bytes_cmp key) (sym (listed ∙ all_of (entries m.0))))
-
--- nor is a question answered twice in two ways
-answered_in_two_ways : ReadsShareAMap (Read 2 (Get key) (Found (Some (7 ∷ []))) ∷ (Read 2 (Get key) (Found None) ∷ [])) → ⊥
-answered_in_two_ways share =
-    let m = share 2 (Get key) (Get key) (Found (Some (7 ∷ []))) (Found None) [] [] [] refl tt in
-    let a : Some (7 ∷ []) ≡ get m.0 key = cc m.1 in
-    let b : None ≡ get m.0 key = cc m.2 in
-    cc (a ∙ sym b)

@@ -12,7 +12,7 @@ use Rattle.lsm_model.proofs.Beginnings.{spared_all}
 use Rattle.lsm_model.proofs.Crashes.{is_in_behind, more_covered}
 use Rattle.lsm_run_model.specs.Outcomes.{Told, Past, after, after_all, without_low_reads, note_at}
 use Rattle.lsm_run_model.specs.Moments.{HoldsBeginning, LeavesNow, EachMoment, last_of}
-use Rattle.lsm_run_model.specs.Following.{BeginningsGrow, MomentsMakeRuns, MomentsSince, MomentsJoin, IsReached, EveryImageIsACalls}
+use Rattle.lsm_run_model.specs.Following.{BeginningsGrow, MomentsSince, MomentsJoin}
 
 -- ---- beginnings
 
@@ -118,10 +118,6 @@ module _ {F R : Type 0} (Shows : Image → Map → Type 0) (world : F → World)
   since past (t ∷ told) was [] (suc n) each left s = absurd each
   since past (t ∷ told) was (is ∷ stores) (suc n) each left s = since (after opened past t) told is stores n each.2 left s
 
-pub moments_make_runs : {F : Type 0} (R : Type 0) (Shows : Image → Map → Type 0) (world : F → World) → MomentsMakeRuns R Shows world
-moments_make_runs R Shows world opened start past told was stores each =
-    let w = whole Shows world opened start past told was stores (covered past.notes) (omega arith) each in record { meanwhile = w.0; then = w.1 }
-
 pub moments_since : {F : Type 0} (R : Type 0) (Shows : Image → Map → Type 0) (world : F → World) → MomentsSince R Shows world
 moments_since R Shows world opened start past told was stores answered each left s = since Shows world opened start past told was stores answered each left s
 
@@ -158,20 +154,3 @@ moments_join R Shows world = record {
 }
 
 -- ---- one image
-
-image_of : {F R : Type 0} (Shows : Image → Map → Type 0) (world : F → World) (opened : List Entry) (start : Map) (past : Past) (told : List (Told R)) (was : F) (stores : List F) (t : ℕ) → t ≤ (world was).moment
-    → EachMoment Shows world opened start past told was stores → (left : Image) → (world (last_of was stores)).since t left
-    → (world was).since t left ⊎ ((at : Past) × (least : ℕ) × IsReached opened past told at least × HoldsBeginning Shows start at least left)
-image_of Shows world opened start past [] was [] t low each left since = inl since
-image_of Shows world opened start past [] was (is ∷ stores) t low each left since = absurd each
-image_of Shows world opened start past (told ∷ more) was [] t low each left since = absurd each
-image_of Shows world opened start past (told ∷ more) was (is ∷ stores) t low each left since = ⊎_elim
-    (λ (here : (world is).since t left). ⊎_elim
-    (λ (s : (world was).since t left). inl s)
-    (λ h. inr (after opened past told, covered past.notes, inl (refl, refl), h))
-    (each.1.before t left low here))
-    (λ (h : (at : Past) × (least : ℕ) × IsReached opened (after opened past told) more at least × HoldsBeginning Shows start at least left). inr (h.0, h.1, inr h.2, h.3))
-    (image_of Shows world opened start (after opened past told) more is stores t (let l = each.1.later in omega arith) each.2 left since)
-
-pub every_image : {F : Type 0} (R : Type 0) (Shows : Image → Map → Type 0) (world : F → World) → EveryImageIsACalls R Shows world
-every_image R Shows world opened start past told was stores moment low each left since = image_of Shows world opened start past told was stores moment low each left since

@@ -10,4 +10,3 @@ pub mod Examples
 pub mod Counting
 pub mod CameAbout
 pub mod Sealed
-pub mod Repeating

@@ -12,7 +12,7 @@ use Rattle.lsm_model.specs.Laws.{MapsAreRead}
 use Rattle.lsm_model.specs.declared.journal.JournalEntry.TheVariants.{Write, Clear, Install, Dropped, Mark, Read}
 use Rattle.lsm_model.proofs.Journals.{next_of-le, floor-le, in_order_push}
 use Rattle.lsm_run_model.specs.Outcomes.{Told, journal_of}
-use Rattle.lsm_run_model.specs.Rising.{Drawing, Silent, Own, Raises, Reserves, Draws, Standing, At, UpTo, IsWhere, most, moved, unused, MayDraw, RisesFrom, Asks, times, WeakOnce, IsUnnumbered, IsBatch, IsCommitted, UsesNumbers, UsesKeys, EachUses, StandsBelow, StaysInOrder, RisingIsInOrder, RisingFront, RisingLower}
+use Rattle.lsm_run_model.specs.Rising.{Drawing, Silent, Own, Raises, Reserves, Draws, Standing, At, UpTo, IsWhere, most, moved, unused, MayDraw, RisesFrom, Asks, times, WeakOnce, IsUnnumbered, IsBatch, IsCommitted, UsesNumbers, UsesKeys, EachUses, StandsBelow, StaysInOrder, RisingIsInOrder}
 
 -- ---- keys
 
@@ -337,60 +337,3 @@ pub rising_is_in_order : MapsAreRead → (R : Type 0) → RisingIsInOrder R
 rising_is_in_order maps R opened journal calls told counter low c set counters s w r once u = rising maps opened journal calls told counter low c set counters s w r once u
 
 -- ---- fronts, and lower numbers
-
-pub rising_front : RisingFront
-rising_front = record { numbers = numbers; keys = keys }
-  where
-    numbers : (calls more : List Drawing) (low : ℕ) (c : Standing) → RisesFrom low c (calls ++ more) → RisesFrom low c calls
-    numbers [] more low c r = tt
-    numbers (call ∷ calls) more low c r = (r.0, numbers calls more (unused call low c) (moved call c) r.1)
-
-    keys : (opened : List Entry) (before : List Bytes) (calls more : List Asks) → WeakOnce opened before (calls ++ more) → WeakOnce opened before calls
-    keys opened before [] more w = tt
-    keys opened before (call ∷ calls) more w = (w.0, keys opened (call.sets ++ before) calls more w.1)
-
--- the counter stands at the same place, or where it stands isn't known there
-abbrev IsNoHigher : Standing → Standing → Type 0
-IsNoHigher c (UpTo high) = most c ≤ high
-IsNoHigher (At n) (At high) = n ≡ high
-IsNoHigher (UpTo n) (At high) = ⊥
-
-most_low : (c d : Standing) → IsNoHigher c d → most c ≤ most d
-most_low (At n) (At high) h = omega arith
-most_low (At n) (UpTo high) h = h
-most_low (UpTo n) (At high) h = absurd h
-most_low (UpTo n) (UpTo high) h = h
-
-draws_low : (call : Drawing) (low lower : ℕ) (c d : Standing) → lower ≤ low → IsNoHigher c d → MayDraw call low d → MayDraw call lower c
-draws_low Silent low lower c d l h may = tt
-draws_low (Own n) low lower (At a) (At b) l h may = let x = may.0 in let y = may.1 in (omega arith, omega arith)
-draws_low (Own n) low lower (At a) (UpTo b) l h may = absurd may
-draws_low (Own n) low lower (UpTo a) (At b) l h may = absurd h
-draws_low (Own n) low lower (UpTo a) (UpTo b) l h may = absurd may
-draws_low (Raises n) low lower c d l h may = let m = most_low c d h in omega arith
-draws_low Reserves low lower c d l h may = let m = most_low c d h in omega arith
-draws_low Draws low lower c d l h may = tt
-
-unused_low : (call : Drawing) (low lower : ℕ) (c d : Standing) → lower ≤ low → IsNoHigher c d → unused call lower c ≤ unused call low d
-unused_low Silent low lower c d l h = l
-unused_low (Own n) low lower c d l h = omega arith
-unused_low (Raises n) low lower c d l h = l
-unused_low Reserves low lower c d l h = l
-unused_low Draws low lower c d l h = let m = most_low c d h in omega arith
-
-moved_low : (call : Drawing) (c d : Standing) → IsNoHigher c d → IsNoHigher (moved call c) (moved call d)
-moved_low Silent c d h = h
-moved_low (Own n) c d h = h
-moved_low (Raises n) c d h = refl
-moved_low Reserves (At a) (At b) h = ap (λ n. n + 1) h
-moved_low Reserves (At a) (UpTo b) h = omega arith
-moved_low Reserves (UpTo a) (At b) h = absurd h
-moved_low Reserves (UpTo a) (UpTo b) h = omega arith
-moved_low Draws c d h = let m = most_low c d h in omega arith
-
-lowered : (calls : List Drawing) (low lower : ℕ) (c d : Standing) → lower ≤ low → IsNoHigher c d → RisesFrom low d calls → RisesFrom lower c calls
-lowered [] low lower c d l h r = tt
-lowered (call ∷ calls) low lower c d l h r = (draws_low call low lower c d l h r.0, lowered calls (unused call low d) (unused call lower c) (moved call c) (moved call d) (unused_low call low lower c d l h) (moved_low call c d h) r.1)
-
-pub rising_lower : RisingLower
-rising_lower calls low lower high c l h r = lowered calls low lower c (UpTo high) l h r

@@ -97,24 +97,6 @@ RunsCompose {F} R Finds Shows world = (opened : List Entry) (start : Map) (n : �
 
 -- ---- reads alone, over any store
 
--- the deeds of a call add to the journal and to the notes what it tells
-abbrev pub HasDeeds : {R : Type 0} → List Entry → Told R → Saved → Saved → Type 0
-HasDeeds opened told old new = (deeds : List Deed) × Deeds opened old deeds new × (past_of new ≡ after opened (past_of old) told)
-
--- each call has them, where reads are right before it and the journal is in order after it
-abbrev pub EachHasDeeds : {R : Type 0} → List Entry → Map → List (Told R) → Saved → List Saved → Type 0
-EachHasDeeds opened start [] old [] = Unit {0}
-EachHasDeeds opened start (told ∷ more) old (new ∷ trees) =
-    (IsRight opened start old → InOrder opened (after opened (past_of old) told).journal → HasDeeds opened told old new) × EachHasDeeds opened start more new trees
-EachHasDeeds opened start told old trees = ⊥
-
--- after each of the first calls reads are right where they were before them, as long as the journal is in order
-abbrev pub ReadsStayRight : Type 0 → Type 0
-ReadsStayRight R = (opened : List Entry) (start : Map) (told : List (Told R)) (first : Saved) (trees : List Saved)
-    → IsRight opened start first → EachHasDeeds opened start told first trees
-    → (many : ℕ) → InOrder opened (after_all opened (past_of first) (take many told)).journal
-    → AllByRecursion (IsRight opened start) (first ∷ take many trees) × (past_of (last_of first (take many trees)) ≡ after_all opened (past_of first) (take many told))
-
 -- a tree that came about has no low reads in its journal
 abbrev pub NoLowReads : Type 0
 NoLowReads = (opened : List Entry) (start : Map) (t : Saved) → CameAbout opened start t → without_low_reads opened t.state.journal ≡ t.state.journal

@@ -4,7 +4,7 @@ use Rattle.lsm_below.specs.Entries.{Entry}
 use Rattle.lsm_store.specs.World.{Image, World, LeavesOnly}
 use Rattle.lsm_model.specs.Journal.{Map, Event}
 use Rattle.lsm_model.specs.Beginnings.{Note, IsBeginning, covered}
-use Rattle.lsm_run_model.specs.Outcomes.{Told, Past, after, after_all}
+use Rattle.lsm_run_model.specs.Outcomes.{Told, Past, after_all}
 use Rattle.lsm_run_model.specs.Moments.{HoldsBeginning, LeavesNow, EachMoment, last_of}
 
 -- a beginning of the calls so far is one of more calls too
@@ -17,10 +17,6 @@ pub record LeavesWhole {F R : Type 0} (Shows : Image → Map → Type 0) (world 
   pub meanwhile : LeavesOnly (world was) (world is) (HoldsBeginning Shows start (after_all opened past told) (covered past.notes))
   pub then : LeavesNow (world is) (HoldsBeginning Shows start (after_all opened past told) (covered (after_all opened past told).notes))
 
-abbrev pub MomentsMakeRuns : {F : Type 0} → Type 0 → (Image → Map → Type 0) → (F → World) → Type 0
-MomentsMakeRuns {F} R Shows world = (opened : List Entry) (start : Map) (past : Past) (told : List (Told R)) (was : F) (stores : List F)
-    → EachMoment Shows world opened start past told was stores → LeavesWhole Shows world opened start past told was (last_of was stores)
-
 -- What a crash left since a moment after the first of these calls, as the store tells it after the last: a beginning of all of them that
 -- holds all that those first ones covered. With all of them answered it is what a crash leaves now.
 abbrev pub MomentsSince : {F : Type 0} → Type 0 → (Image → Map → Type 0) → (F → World) → Type 0
@@ -28,11 +24,6 @@ MomentsSince {F} R Shows world = (opened : List Entry) (start : Map) (past : Pas
     → EachMoment Shows world opened start past told was stores
     → (left : Image) → (world (last_of was stores)).since (world (last_of was (take answered stores))).moment left
     → HoldsBeginning Shows start (after_all opened past told) (covered (after_all opened past (take answered told)).notes) left
-
--- what stands after one of these calls, and what was covered before it
-abbrev pub IsReached : {R : Type 0} → List Entry → Past → List (Told R) → Past → ℕ → Type 0
-IsReached opened past [] at least = ⊥
-IsReached opened past (told ∷ more) at least = ((at ≡ after opened past told) × (least ≡ covered past.notes)) ⊎ IsReached opened (after opened past told) more at least
 
 -- calls after calls: their moments are those of one run, and those of a run can be cut anywhere
 pub record MomentsJoin {F : Type 0} (R : Type 0) (Shows : Image → Map → Type 0) (world : F → World) : Type 0 where
@@ -43,10 +34,3 @@ pub record MomentsJoin {F : Type 0} (R : Type 0) (Shows : Image → Map → Type
   pub cut : (opened : List Entry) (start : Map) (past : Past) (told more : List (Told R)) (was : F) (chain : List F)
       → EachMoment Shows world opened start past (told ++ more) was chain
       → (stores : List F) × (others : List F) × (chain ≡ stores ++ others) × EachMoment Shows world opened start past told was stores × EachMoment Shows world opened start (after_all opened past told) more (last_of was stores) others
-
--- what a crash left since a moment, as the store tells it after a run: it was left before the run, or in one of its calls or after one
-abbrev pub EveryImageIsACalls : {F : Type 0} → Type 0 → (Image → Map → Type 0) → (F → World) → Type 0
-EveryImageIsACalls {F} R Shows world = (opened : List Entry) (start : Map) (past : Past) (told : List (Told R)) (was : F) (stores : List F) (moment : ℕ)
-    → moment ≤ (world was).moment → EachMoment Shows world opened start past told was stores
-    → (left : Image) → (world (last_of was stores)).since moment left
-    → (world was).since moment left ⊎ ((at : Past) × (least : ℕ) × IsReached opened past told at least × HoldsBeginning Shows start at least left)

@@ -6,4 +6,3 @@ pub mod Lives
 pub mod Settling
 pub mod Rising
 pub mod Counting
-pub mod Repeating

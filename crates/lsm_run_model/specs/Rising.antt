@@ -165,12 +165,3 @@ RisingIsInOrder R = (opened : List Entry) (journal : List Event) (calls : List A
 pub record OrderWithoutReads : Type 0 where
   pub order : (opened : List Entry) (journal : List Event) → InOrder opened journal ↔ InOrder opened (without_low_reads opened journal)
   pub number : (opened : List Entry) (journal : List Event) → next_number opened (without_low_reads opened journal) ≡ next_number opened journal
-
--- numbers that rise do so in the first calls alone, and what was set once at most is so for them
-pub record RisingFront : Type 0 where
-  pub numbers : (calls more : List Drawing) (low : ℕ) (c : Standing) → RisesFrom low c (calls ++ more) → RisesFrom low c calls
-  pub keys : (opened : List Entry) (before : List Bytes) (calls more : List Asks) → WeakOnce opened before (calls ++ more) → WeakOnce opened before calls
-
--- numbers that rise wherever the counter stands, up to one number, rise from any place up to it, over lower numbers
-abbrev pub RisingLower : Type 0
-RisingLower = (calls : List Drawing) (low lower high : ℕ) (c : Standing) → lower ≤ low → most c ≤ high → RisesFrom low (UpTo high) calls → RisesFrom lower c calls

@@ -3,7 +3,7 @@ use Rattle.std.specs.Prelude.{◌≡◌, ◌⊎◌, ℕ, ◌≤◌, Bool, true, 
 use Rattle.lsm_store.specs.World.{Image, World, IsImage, LeavesOnly, Narrows, IsOnDisk}
 use Rattle.lsm_model.specs.Journal.{Map}
 use Rattle.lsm_run_model.specs.Moments.{LeavesNow}
-use Rattle.lsm_run_model.specs.Lives.{Killed, GivesOne, EndsIn, LeavesReady, ShowsOld}
+use Rattle.lsm_run_model.specs.Lives.{Killed, GivesOne, EndsIn, ShowsOld}
 
 -- ---- moments
 
@@ -77,12 +77,3 @@ pub record Settling {F : Type 0} (Shows : Image → Map → Type 0) (world : F �
   pub puts : SettlingPuts world
 
 -- ---- from images to stores that opening takes
-
--- any two images that a crash may leave fit each other: where opening takes a store just then, it takes what is left of it
-abbrev pub AllFit : (Image → Image → Type 0) → World → Type 0
-AllFit Fit w = (a b : Image) → IsImage w.may a → IsImage w.may b → Fit a b
-
--- so what a call says of the images meanwhile says what a kill in it leaves
-pub images_keep_ready : {F : Type 0} (world : F → World) (Fit : Image → Image → Type 0) (P : Image → Type 0) (was is : F)
-    → LeavesOnly (world was) (world is) P → ((a b : Image) → P a → P b → Fit a b) → LeavesReady (AllFit Fit) world was is
-images_keep_ready world Fit P was is leaves fit cut ends a b at_a at_b = fit a b (leaves.each a (ends.each a at_a)) (leaves.each b (ends.each b at_b))

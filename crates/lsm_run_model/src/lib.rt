@@ -14,9 +14,8 @@ mod noted;
 
 pub use finding::Finding;
 pub use laws::{
-    beginnings_grow, counted_runs_are_in_order, every_image_is_a_calls, lives_go_on, moments_join,
-    moments_make_runs, moments_since, no_low_reads, notes_tell_sealed, numbers_are_bounded,
-    openings_settle, order_without_reads, reads_share_a_map, reads_stay_right, rising_front,
-    rising_is_in_order, rising_lower, runs_compose,
+    lives_go_on, moments_join,
+    no_low_reads, notes_tell_sealed, numbers_are_bounded,
+    openings_settle, order_without_reads,     rising_is_in_order, runs_compose,
 };
 pub use noted::{MemtableIds, Noted, Outcome, Telling};

@@ -251,13 +251,6 @@ impl Model for Outcome {
 }
 
 impl Outcome {
-    /// What the step answered, out of the outcome.
-    pub fn into_reply(self) -> Reply
-        ensures { result ≡ self.reply }
-    {
-        self.reply
-    }
-
     /// What the step answered.
     pub fn reply(&self) -> &Reply
         ensures { result.now ≡ self.now.reply }

@@ -8,10 +8,9 @@ pub use lsm_manifest::{
     settled_stores_are_ready, unread_names_dont_matter,
 };
 pub use lsm_model::{
-    any_number_of_crashes, beginnings_answer, counted_is_in_order, cover_lasts, deeds_join,
-    each_deed_recovers, every_crash_recovers, every_deed_reads_right, every_run_reads_right,
-    joined_runs_show_the_same, levels_rise, maps_are_read, opening_starts, parts_are_whole,
-    reads_are_sound, steps_spare_answers, tables_are_placed, tables_show_above,
+    counted_is_in_order, deeds_join,
+    every_crash_recovers, every_run_reads_right,     levels_rise, maps_are_read, opening_starts, parts_are_whole,
+    reads_are_sound, tables_are_placed, tables_show_above,
 };
 pub use lsm_pick::leveled_is_lawful;
 pub use lsm_runs::{any_number_of_lives, openings_are_lives, runs_are_lives};

@@ -38,7 +38,7 @@ pub use reads::ReadsTree;
 pub use lsm_below::{
     AsEntry, CompactionStream, Error, Headed, InternalKey, InternalValue, KeyRange, KvPair,
     ListSource, MemtableId, Merger, MvccStream, Ranged, Run, SeqNo, Source, Stretch, TableId,
-    TreeId, UserKey, UserValue, ValueType, compact, entries_within, first_visible, has_same_key,
+    TreeId, UserKey, UserValue, ValueType, compact, has_same_key,
     head_of, is_run, optimize_runs, share,
 };
 pub use lsm_iter::{

@@ -20,7 +20,7 @@ ghost use Rattle.lsm_state.specs.Files.{RegistersFiles};
 use crate::{TreeState, flushes_are_deeds};
 use lsm_below::{MemtableId, SeqNo, TableId};
 use lsm_commit::crashes_leave_versions;
-use lsm_flush::{Registered, SealedMemtable, WrittenFlush, same_entries, same_ids, same_tables};
+use lsm_flush::{Registered, SealedMemtable, WrittenFlush, same_entries, same_tables};
 use lsm_parts::{Error, LIMIT, Memtables, SuperVersion};
 use lsm_store::Store;
 use lsm_tables::Table;

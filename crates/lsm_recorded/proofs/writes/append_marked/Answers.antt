@@ -1,7 +1,4 @@
 use Rattle.std.proofs.Common.{◌≡◌, ap, OnOk}
-use Rattle.lsm_below.specs.Keys.{Bytes}
-use Rattle.lsm_below.specs.Entries.{Entry}
-use Rattle.lsm_recorded.specs.Marks.{mark_of, marked_by}
 use Rattle.lsm_recorded.proofs.writes.append_marked.Goals as goal
 
 pub returns-clause-core : goal.returns-clause-core
