@@ -33,7 +33,6 @@ module _ {T : Type 0} (range : T → Range) where
   range_at (x ∷ xs) (suc j) d h lt = range_at xs j d h.2 (omega arith)
 
   module _ (xs : List T) (run : IsRun range xs) (side : Side) (k : List ℕ) where
-
     parted : (i j : ℕ) (d : T) → i ≤ j → j < length xs → stands side k (range (get_or xs j d)) ≡ true → stands side k (range (get_or xs i d)) ≡ true
     parted i j d le lt h =
         elim (cases_lt i j) [
@@ -113,7 +112,6 @@ module _ {X : Type 0} (t : X → Bool) where
   find_none (x ∷ xs) none = ap (λ b. cond b (Some x) (find t xs)) (none 0 x (omega arith)) ∙ find_none xs (λ j d lt. none (suc j) d (omega arith))
 
 module _ {T : Type 0} (range : T → Range) (xs : List T) (run : IsRun range xs) (k : List ℕ) (at : ℕ) (cut : IsCut (λ t. stands EndsBefore k (range t)) xs at) where
-
   before : (j : ℕ) (d : T) → j < at → in_range k (range (get_or xs j d)) ≡ false
   before j d lt = in_by k (range (get_or xs j d)) ∙ rw (cut.before j d lt) (and-false (not (is_below k (range (get_or xs j d)).min)))
 

@@ -100,7 +100,6 @@ module _ {X : Type 0} (lt : X → X → Bool) where
 
 -- a merge of lists in order is in order
 module _ {X : Type 0} {R : X → X → Ordering} (o : IsTotalOrder R) where
-
   ascends_front : (x : X) (xs : List X) → AllByRecursion (λ z. is_le (R x z) ≡ true) xs → ((ys : List X) → Ascends R ys → Ascends R (merge (λ x y. is_lt (R x y)) xs ys)) → (ys : List X) → Ascends R ys
       → Ascends R (place_front (λ x y. is_lt (R x y)) x (merge (λ x y. is_lt (R x y)) xs) ys)
   ascends_front x xs h next [] k = (each_merge (λ x y. is_lt (R x y)) (λ z. is_le (R x z) ≡ true) xs [] h tt, next [] tt)

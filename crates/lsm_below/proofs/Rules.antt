@@ -35,7 +35,6 @@ module _ {T : Type 0} (range : T → Range) where
   ] refl
 
   module _ (k : List ℕ) where
-
     -- where no table overlaps a range with the key, no table has it
     none_has : (t : T) (xs : List T) → in_range k (range t) ≡ true → is_free range (range t) xs ≡ true → filter (λ x. in_range k (range x)) xs ≡ []
     none_has t [] h f = refl

@@ -20,7 +20,7 @@ pub use commit::commit_version;
 pub use contents::write_contents;
 pub use removal::{remove_tables, remove_version, remove_written};
 pub use stored::{
-    crashes_leave_versions, files_are_tables, foreign_names_spare,
-    opening_stores, openings_pass, openings_settle, stored_files_are_ready,
+    crashes_leave_versions, files_are_tables, foreign_names_spare, opening_stores, openings_pass,
+    openings_settle, stored_files_are_ready,
 };
 pub use tables::write_tables;

@@ -18,9 +18,9 @@ mod repeats;
 
 pub use journal::{JournalEntry, KeyRanges};
 pub use laws::{
-    counted_is_in_order, deeds_join,
-    every_crash_recovers, every_run_reads_right,     levels_rise, maps_are_read, opening_starts, parts_are_whole,
-    reads_are_sound, tables_are_placed, tables_show_above,
+    counted_is_in_order, deeds_join, every_crash_recovers, every_run_reads_right, levels_rise,
+    maps_are_read, opening_starts, parts_are_whole, reads_are_sound, tables_are_placed,
+    tables_show_above,
 };
 pub use op::{Op, Ops};
 pub use question::{Answer, KeyBound, KvPairs, Question};

@@ -14,8 +14,7 @@ mod noted;
 
 pub use finding::Finding;
 pub use laws::{
-    lives_go_on, moments_join,
-    no_low_reads, notes_tell_sealed, numbers_are_bounded,
-    openings_settle, order_without_reads,     rising_is_in_order, runs_compose,
+    lives_go_on, moments_join, no_low_reads, notes_tell_sealed, numbers_are_bounded,
+    openings_settle, order_without_reads, rising_is_in_order, runs_compose,
 };
 pub use noted::{MemtableIds, Noted, Outcome, Telling};

@@ -8,9 +8,9 @@ pub use lsm_manifest::{
     settled_stores_are_ready, unread_names_dont_matter,
 };
 pub use lsm_model::{
-    counted_is_in_order, deeds_join,
-    every_crash_recovers, every_run_reads_right,     levels_rise, maps_are_read, opening_starts, parts_are_whole,
-    reads_are_sound, tables_are_placed, tables_show_above,
+    counted_is_in_order, deeds_join, every_crash_recovers, every_run_reads_right, levels_rise,
+    maps_are_read, opening_starts, parts_are_whole, reads_are_sound, tables_are_placed,
+    tables_show_above,
 };
 pub use lsm_pick::leveled_is_lawful;
 pub use lsm_runs::{any_number_of_lives, openings_are_lives, runs_are_lives};

@@ -38,8 +38,8 @@ pub use reads::ReadsTree;
 pub use lsm_below::{
     AsEntry, CompactionStream, Error, Headed, InternalKey, InternalValue, KeyRange, KvPair,
     ListSource, MemtableId, Merger, MvccStream, Ranged, Run, SeqNo, Source, Stretch, TableId,
-    TreeId, UserKey, UserValue, ValueType, compact, has_same_key,
-    head_of, is_run, optimize_runs, share,
+    TreeId, UserKey, UserValue, ValueType, compact, has_same_key, head_of, is_run, optimize_runs,
+    share,
 };
 pub use lsm_iter::{
     End, Guard, IterGuard, IterState, Overlay, Pairs, RangeItem, TreeIter, prefix_to_range,
