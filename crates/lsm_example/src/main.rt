@@ -1,42 +1,36 @@
-//! The tree as a library: a batch, reads at two snapshots, and a range.
+//! The tree as a library, shown call by call, over stores in memory.
 //!
-//! `TreeState` is the tree with one owner. It keeps no journal: `Recorded` does, for those who ask for one.
+//! | Module | Shows |
+//! |-|-|
+//! | `snapshots` | a batch, and reads at two snapshots |
+//! | `ranges` | iterators within bounds, from both ends, by prefix, and under an overlay |
+//! | `strategy` | a strategy of one's own |
+//! | `threads` | a tree that several threads share, and a compaction beside them |
 #![tactic(auto)]
 
+mod ranges;
+mod snapshots;
+mod strategy;
+mod threads;
+
 use anyhow::Result;
-use lsm_tree::{Config, IterGuard, MemStore, Op, TreeState, UserKey};
+use lsm_tree::{Config, MemStore, TreeState, UserKey};
 use std::alloc::Global;
-use std::ops::Bound;
 
 /// A key or a value of these letters.
 fn text(letters: &'static str) -> UserKey {
     UserKey::from_static(letters.as_bytes())
 }
 
-/// Writes, and reads at two snapshots. It borrows the tree, so that `main` alone drops it.
-fn show(rt: &impl Print, alloc: Global, tree: &mut TreeState) -> Result<()> {
-    let (one, two) = (Op::Set(text("1")), Op::Set(text("2")));
-    tree.write(vec![in alloc; (text("a"), one), (text("b"), two)]?)?;
-    let before = tree.visible_seqno().get();
-    tree.write(vec![in alloc; (text("a"), Op::Del)]?)?;
-    let now = tree.visible_seqno().get();
-
-    println!(rt; "a was {:?}", tree.get(b"a", before)?)?;
-    println!(rt; "a is {:?}", tree.get(b"a", now)?)?;
-    for pair in tree.range(&(Bound::Included(text("a")), Bound::Unbounded), now, None)? {
-        let (key, value) = pair.into_inner()?;
-        println!(rt; "{key:?} has {value:?}")?;
-    }
-    Ok(())
+/// A new tree with one owner. It keeps no call history: `Recorded` does, for those who ask for one.
+fn open(alloc: Global) -> Result<TreeState> {
+    let opened = TreeState::open(alloc, Config::new(0, 0, 0), MemStore::new(alloc));
+    Ok(opened.map_err(|refused| refused.0)?)
 }
 
 fn main(rt: HostRuntime) -> Result<()> {
-    let alloc = rt.alloc();
-    let mut tree = match TreeState::open(alloc, Config::new(0, 0, 0), MemStore::new(alloc)) {
-        Ok(tree) => tree,
-        Err((error, _)) => return Err(error.into()),
-    };
-    let told = show(&rt, alloc, &mut tree);
-    drop(tree);
-    told
+    snapshots::run(&rt, rt.alloc())?;
+    ranges::run(&rt, rt.alloc())?;
+    strategy::run(&rt, rt.alloc())?;
+    threads::run(rt, rt.alloc())
 }

@@ -1,16 +1,11 @@
 //! Iterators over what a snapshot shows: within bounds, from both ends, by prefix, and under an overlay of writes that
 //! aren't in the tree yet.
-#![tactic(auto)]
 
+use crate::{open, text};
 use anyhow::Result;
-use lsm_tree::{Config, Guard, IterGuard, MemStore, Memtable, Op, SeqNo, TreeState, UserKey};
+use lsm_tree::{Guard, IterGuard, Memtable, Op, SeqNo, TreeState};
 use std::alloc::Global;
 use std::ops::Bound;
-
-/// A key or a value of these letters.
-fn text(letters: &'static str) -> UserKey {
-    UserKey::from_static(letters.as_bytes())
-}
 
 /// Writes five keys. The first three go into a table; reads don't tell where a key stands.
 fn fill(alloc: Global, tree: &mut TreeState) -> Result<()> {
@@ -86,11 +81,9 @@ fn show(rt: &impl Print, alloc: Global, tree: &mut TreeState) -> Result<()> {
     show_overlay(rt, alloc, tree, now)
 }
 
-fn main(rt: HostRuntime) -> Result<()> {
-    let alloc = rt.alloc();
-    let opened = TreeState::open(alloc, Config::new(0, 0, 0), MemStore::new(alloc));
-    let mut tree = opened.map_err(|refused| refused.0)?;
-    let told = show(&rt, alloc, &mut tree);
+pub(crate) fn run(rt: &impl Print, alloc: Global) -> Result<()> {
+    let mut tree = open(alloc)?;
+    let told = show(rt, alloc, &mut tree);
     drop(tree);
     told
 }

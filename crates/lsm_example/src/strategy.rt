@@ -1,12 +1,12 @@
 //! A strategy of one's own: it merges all tables once the first level has enough runs.
 //!
 //! A strategy need not be right: a merge or a move that would change an answer is declined.
-#![tactic(auto)]
 
+use crate::{open, text};
 use anyhow::Result;
 use lsm_tree::{
-    Begun, Choice, ChooseError, CompactionState, CompactionStrategy, Config, Input, MemStore, Op,
-    TableId, TreeState, UserKey, Version,
+    Begun, Choice, ChooseError, CompactionState, CompactionStrategy, Config, Input, Op, TableId,
+    TreeState, Version,
 };
 use std::alloc::{AllocError, Global};
 use std::collections::HashSet;
@@ -88,8 +88,7 @@ fn print_begun(rt: &impl Print, begun: Begun) -> Result<()> {
 
 /// Writes a key into a table of its own.
 fn add_table(alloc: Global, tree: &mut TreeState, key: &'static str) -> Result<()> {
-    let key = UserKey::from_static(key.as_bytes());
-    tree.write(vec![in alloc; (key, Op::Set(UserKey::from_static(b"x")))]?)?;
+    tree.write(vec![in alloc; (text(key), Op::Set(text("x")))]?)?;
     tree.flush_active_memtable(0).map_err(|refused| refused.0)?;
     Ok(())
 }
@@ -119,11 +118,9 @@ fn show(rt: &impl Print, alloc: Global, tree: &mut TreeState) -> Result<()> {
     Ok(())
 }
 
-fn main(rt: HostRuntime) -> Result<()> {
-    let alloc = rt.alloc();
-    let opened = TreeState::open(alloc, Config::new(0, 0, 0), MemStore::new(alloc));
-    let mut tree = opened.map_err(|refused| refused.0)?;
-    let told = show(&rt, alloc, &mut tree);
+pub(crate) fn run(rt: &impl Print, alloc: Global) -> Result<()> {
+    let mut tree = open(alloc)?;
+    let told = show(rt, alloc, &mut tree);
     drop(tree);
     told
 }

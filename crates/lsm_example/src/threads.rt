@@ -1,8 +1,8 @@
 //! A tree that several threads share: four of them write and read, and one compacts beside them.
-#![tactic(auto)]
 
+use crate::open;
 use anyhow::Result;
-use lsm_tree::{Config, Error, Handle, Leveled, MemStore, Op, RunJob, Tree, TreeState, UserKey};
+use lsm_tree::{Error, Handle, Leveled, Op, RunJob, Tree, UserKey};
 use std::alloc::{AllocError, Global};
 use std::sync::{Arc, Mutex, Wait};
 use std::thread::{self, Threads};
@@ -89,10 +89,11 @@ fn finish<R: Print + Wait>(rt: &R, tree: &Tree) -> Result<()> {
     Ok(())
 }
 
-fn main(rt: HostRuntime) -> Result<()> {
-    let alloc = rt.alloc();
-    let opened = TreeState::open(alloc, Config::new(0, 0, 0), MemStore::new(alloc));
-    let tree = Handle::new(alloc, opened.map_err(|refused| refused.0)?)?;
+pub(crate) fn run<R: Print + Threads + Wait + Copy + Send + Sync + 'static>(
+    rt: R,
+    alloc: Global,
+) -> Result<()> {
+    let tree = Handle::new(alloc, open(alloc)?)?;
     let stop = Arc::new(alloc, Mutex::new(false))?;
 
     let (other, told) = (tree.clone()?, Arc::try_clone(&stop)?);
