@@ -1,11 +1,9 @@
 // A boxed strategy that answers anything. Nothing halts, and only a drop changes what is read.
 use crate::samples::{open_new, set};
-use lsm_below::{Error, TableId};
-use lsm_checks::{Input, Why};
-use lsm_parts::Config;
-use lsm_pick::{Choice, ChooseError, CompactionStrategy};
-use lsm_state::{Begun, TreeState};
-use lsm_versions::{CompactionState, Version};
+use lsm_state::{
+    Begun, Choice, ChooseError, CompactionState, CompactionStrategy, Config, Error, Input, TableId,
+    TreeState, Version, Why,
+};
 use std::alloc::{AllocError, Global};
 use std::collections::HashSet;
 use std::test::Fail;

@@ -1,13 +1,9 @@
 // Jobs that end on another tree: there they do nothing, and here they stay open until the tree is opened again.
 use crate::careless::{all_ids, into_level, open_with_two};
 use crate::samples::{open, text};
-use lsm_below::Error;
-use lsm_checks::Why;
-use lsm_compaction::MergedCompaction;
-use lsm_flush::WrittenFlush;
-use lsm_model::Op;
-use lsm_pick::Choice;
-use lsm_state::{Begun, Finished, Options, TreeState};
+use lsm_state::{
+    Begun, Choice, Error, Finished, MergedCompaction, Op, Options, TreeState, Why, WrittenFlush,
+};
 use std::alloc::Global;
 use std::test::Fail;
 

@@ -1,6 +1,6 @@
 // Names beside the files of a tree, and none of its own.
 use crate::samples::{FORMATS, Told, put_table, tells};
-use lsm_store::{MemStore, Store, StoreError};
+use lsm_state::{MemStore, Store, StoreError};
 use std::alloc::Global;
 use std::test::Fail;
 

@@ -1,6 +1,6 @@
 // A file `version` of an older kind of tree beside each damage, and a run of no tables.
 use crate::samples::{FORMATS, Told, file, put_table, put_version, tells};
-use lsm_store::{MemStore, Store, StoreError};
+use lsm_state::{MemStore, Store, StoreError};
 use std::alloc::Global;
 use std::test::Fail;
 

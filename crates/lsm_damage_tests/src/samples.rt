@@ -1,11 +1,6 @@
 // A store with one table, in both formats, and what an opening makes of it.
-use lsm_below::{Error, UserKey};
 use lsm_manifest::write_current;
-use lsm_model::Op;
-use lsm_parts::Config;
-use lsm_state::TreeState;
-use lsm_store::{MemStore, Store, StoreError};
-use lsm_tables::Checksum;
+use lsm_state::{Checksum, Config, Error, MemStore, Op, Store, StoreError, TreeState, UserKey};
 use std::alloc::Global;
 
 pub const FORMATS: [u8; 2] = [3, 4];

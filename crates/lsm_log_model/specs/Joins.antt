@@ -4,9 +4,9 @@ use Rattle.std.specs.List.{AllByRecursion}
 use Rattle.lsm_below.specs.Entries.{Entry, above}
 use Rattle.lsm_model.specs.Journal.{InOrder}
 use Rattle.lsm_model.specs.Views.{IsIn}
-use Rattle.lsm_model.specs.Beginnings.{Saved, Deed, Done, Lost, Deeds, is_commit}
+use Rattle.lsm_model.specs.Beginnings.{is_commit}
 use Rattle.lsm_log_model.specs.Records.{Batch, IsRising, LogImage, LogStands, counted, opened_by}
-use Rattle.lsm_log_model.specs.Logs.{Logged, lost_of, LogIsSound, HasRecords, MayBeDrawn, is_write, did, doubted, Act, Batched, BatchLost, Did, CommitLost, Acts, AllActs, MayLeave, MayBeLeft}
+use Rattle.lsm_log_model.specs.Logs.{Logged, lost_of, LogIsSound, HasRecords, MayBeDrawn, Act, Batched, BatchLost, Did, CommitLost, Acts, AllActs, MayLeave, MayBeLeft}
 use Rattle.lsm_log_model.specs.Replays.{IsReopened}
 
 -- acts after acts are acts, in which all that is left in either is left; what is left before and after acts is left in them
@@ -47,10 +47,3 @@ pub record CounterStaysAbove : Type 0 where
       → MayBeDrawn (opened_by image) old c → c ≤ d → DrawsBelow act new d → MayBeDrawn (opened_by image) new d
 
 -- ---- deeds of the tree
-
--- deeds that write nothing, each commit of which draws its number from this one on, where no batch has unknown outcome
-abbrev pub Lifts : (c : ℕ) (opened : List Entry) (old : Logged) (deeds : List Deed) (tree : Saved) → Deeds opened old.tree deeds tree → Type 0
-Lifts c opened old [] tree d = Unit {0}
-Lifts c opened old (Done action ∷ deeds) tree d = (is_write action ≡ false) × (is_commit action ≡ true → (old.lost ≡ None) × (c ≤ d.0.state.latest.number))
-    × Lifts (if is_commit action then d.0.state.latest.number + 1 else c) opened (did old action d.0) deeds tree d.2
-Lifts c opened old (Lost action would ∷ deeds) tree d = (old.lost ≡ None) × (c ≤ would.latest.number) × Lifts (would.latest.number + 1) opened (doubted old action d.0) deeds tree d.2

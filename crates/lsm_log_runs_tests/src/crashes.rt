@@ -1,6 +1,6 @@
 // How it is drawn what a crash leaves.
 use crate::random::Random;
-use lsm_store::{MemStore, Pick};
+use lsm_state::{MemStore, Pick};
 use std::alloc::{AllocError, Global};
 
 /// So many names are tried at once, since a try copies the store.

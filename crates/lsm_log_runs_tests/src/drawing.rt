@@ -3,10 +3,8 @@ use crate::jobs::{SLOTS, Waits, draw_job};
 use crate::random::Random;
 use crate::shown::{COUNT, KEYS};
 use crate::strategies::draw_strategy;
-use lsm_below::{SeqNo, UserKey, UserValue};
 use lsm_log_runs::LogStep;
-use lsm_model::{Op, Ops};
-use lsm_store::Fault;
+use lsm_state::{Fault, Op, Ops, SeqNo, UserKey, UserValue};
 use std::alloc::{AllocError, Global};
 use std::ops::Bound;
 

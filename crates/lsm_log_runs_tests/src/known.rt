@@ -1,9 +1,9 @@
 // What is known of a tree by what its calls replied.
 use crate::shown::{ALL, Part, Table};
 use crate::strategies::FIFO;
-use lsm_below::Error;
 use lsm_log_runs::LogStep;
 use lsm_runs::{Compacted, JobStep, Reply};
+use lsm_state::Error;
 
 /// What is known of a tree by what its calls replied.
 #[derive(Clone, Copy, Debug)]

@@ -1,14 +1,12 @@
 // A run, a life and their refusals, with what is expected spelled by hand.
 use crate::strategies::{MAJOR, NONE, add_strategies};
-use lsm_below::{Error, UserKey, UserValue};
 use lsm_log_runs::{LogStep, TakenLogged, live_logged, run_logged};
 use lsm_logged::Logged;
-use lsm_model::{Op, Ops};
-use lsm_parts::Config;
-use lsm_pick::CompactionStrategy;
 use lsm_runs::{JobStep, Reply, Slot};
-use lsm_state::Options;
-use lsm_store::{Fault, MemStore, Pick, Store};
+use lsm_state::{
+    CompactionStrategy, Config, Error, Fault, MemStore, Op, Ops, Options, Pick, Store, UserKey,
+    UserValue,
+};
 use std::alloc::{AllocError, Global};
 use std::test::Fail;
 

@@ -1,6 +1,6 @@
 // What each key is to show: a table of values, by rising key, that knows nothing of a tree.
-use lsm_below::{KvPair, UserKey, UserValue};
-use lsm_model::Op;
+
+use lsm_state::{KvPair, Op, UserKey, UserValue};
 use std::ops::Bound;
 
 /// How many keys there are.

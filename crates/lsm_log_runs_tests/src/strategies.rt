@@ -1,6 +1,6 @@
 // The strategies of the scripts, by their indexes.
 use crate::random::Random;
-use lsm_pick::{CompactionStrategy, Fifo, Leveled, Major};
+use lsm_state::{CompactionStrategy, Fifo, Leveled, Major};
 use std::alloc::{AllocError, Global};
 
 /// Merges and moves by levels.

@@ -1,8 +1,7 @@
 // How often each thing happened in the scripts.
 use crate::known::{Known, Told};
-use lsm_flush::Registered;
 use lsm_runs::{Compacted, Reply};
-use lsm_state::Finished;
+use lsm_state::{Finished, Registered};
 
 /// How often each thing happened.
 #[derive(Clone, Copy, Debug)]

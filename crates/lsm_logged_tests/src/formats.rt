@@ -1,11 +1,9 @@
 // A log beside a version in format 3.
 use crate::logs::{count_crashed, flush_between};
 use crate::trees::{count_records, file, flush, fresh, left, opened};
-use lsm_below::Error;
 use lsm_logged::Logged;
 use lsm_manifest::write_current;
-use lsm_store::{MemStore, Pick, Store};
-use lsm_tables::Checksum;
+use lsm_state::{Checksum, Error, MemStore, Pick, Store};
 use std::alloc::Global;
 use std::test::Fail;
 

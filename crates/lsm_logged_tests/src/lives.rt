@@ -1,11 +1,8 @@
 // Three lives in which one store call fails, whichever it is, and crashes that leave of each name what they may: what was
 // acknowledged is there.
 use crate::trees::opened;
-use lsm_below::{Error, UserKey};
 use lsm_logged::Logged;
-use lsm_model::Op;
-use lsm_parts::Config;
-use lsm_store::{Fault, MemStore, Pick};
+use lsm_state::{Config, Error, Fault, MemStore, Op, Pick, UserKey};
 use std::alloc::{AllocError, Global};
 use std::test::Fail;
 

@@ -1,11 +1,8 @@
 // Batches that come back, outcomes that are unknown, and records that are removed. Each tree has one function that makes it
 // and lets it go, and others that borrow it.
 use crate::trees::{count_records, crashed, file, flush, fresh, op, opened, shows, write};
-use lsm_below::{Error, UserKey};
 use lsm_logged::Logged;
-use lsm_parts::Config;
-use lsm_pick::OwnedBounds;
-use lsm_store::{Fault, MemStore, Pick, Store};
+use lsm_state::{Config, Error, Fault, MemStore, OwnedBounds, Pick, Store, UserKey};
 use std::alloc::Global;
 use std::ops::Bound;
 use std::test::Fail;

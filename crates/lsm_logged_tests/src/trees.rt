@@ -1,9 +1,6 @@
 // Logged trees over a store in memory, what is done to them, and what they show.
-use lsm_below::{Error, UserKey, UserValue};
 use lsm_logged::Logged;
-use lsm_model::Op;
-use lsm_parts::Config;
-use lsm_store::{MemStore, Pick, Store};
+use lsm_state::{Config, Error, MemStore, Op, Pick, Store, UserKey, UserValue};
 use std::alloc::Global;
 
 pub fn opened(alloc: Global, store: MemStore) -> Result<Logged, Error> {

@@ -5,7 +5,7 @@ use Rattle.lsm_below.specs.Keys.{Bytes, is_same}
 use Rattle.lsm_below.specs.Entries.{Entry, above, stack, IsOrdered, IsSingle}
 use Rattle.lsm_model.specs.Journal.{in_any, Event, Map, changed, InOrder}
 use Rattle.lsm_model.specs.Views.{view, Placed, held, IsLaidOut, ranges_of, IsIn, HasDistinctIds}
-use Rattle.lsm_model.specs.Steps.{State, among, Action, Rotated, Flushed, Merged, Moved, DroppedTables, Cleared, LostDrop, Step, IsOpened, ReadsEqualReplay}
+use Rattle.lsm_model.specs.Steps.{State, among, Action, Rotated, Flushed, Merged, Moved, DroppedTables, Cleared, LostDrop, Step, IsOpened}
 use Rattle.lsm_model.specs.declared.journal.JournalEntry.TheVariants.{Write, Clear, Install, Dropped, Mark, Read}
 
 -- ---- beginnings
@@ -237,31 +237,3 @@ OpeningStarts = (tables : List Placed) (t : Saved) → Stands tables → IsFresh
 -- at every snapshot above their sequence numbers tables show the same
 abbrev pub ShownAbove : Type 0
 ShownAbove = (tables : List Placed) (s : ℕ) → above (held tables) ≤ s → view s (map (λ p. p.table.entries) tables) ≡ shown_by tables
-
--- a tree is opened on tables, does some deeds, and a crash in the last call leaves others
-pub record Life (first left : List Placed) : Type 0 where
-  pub fresh : Saved
-  pub is_fresh : IsFresh first fresh
-  pub earlier : List Deed
-  pub old : Saved
-  pub ran : Deeds (held first) fresh earlier old
-  pub call : List Deed
-  pub new : Saved
-  pub done : Deeds (held first) old call new
-  pub order : InOrder (held first) new.state.journal
-  pub found : IsFound left (held first) old call new done
-
--- what holds of a life: its reads are right, and what it leaves is a beginning of its calls
-pub record LivesWell (first left : List Placed) (life : Life first left) : Type 0 where
-  pub reads : ReadsEqualReplay (held first) (shown_by first) life.new.state
-  pub recovers : Recovers (shown_by first) life.new.state.journal life.new.notes (covered life.old.notes) left
-
--- one life after the other, each opened on what the one before left
-abbrev pub Lives : List Placed → List (List Placed) → Type 0
-Lives first [] = Unit {0}
-Lives first (left ∷ more) = Life first left × Lives left more
-
--- in each of the lives the reads are right, and what is left is a beginning of its calls
-abbrev pub AllLiveWell : (first : List Placed) (lefts : List (List Placed)) → Lives first lefts → Type 0
-AllLiveWell first [] lives = Unit {0}
-AllLiveWell first (left ∷ more) lives = LivesWell first left lives.0 × AllLiveWell left more lives.1

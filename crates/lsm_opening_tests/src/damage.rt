@@ -6,7 +6,7 @@ use crate::samples::{
     FORMAT_3, FORMAT_4, Format, MISMATCH, OTHER, Runs, TABLE, Told, UNRECOVERABLE, change, fill,
     put_version,
 };
-use lsm_store::{MemStore, Store, StoreError};
+use lsm_state::{MemStore, Store, StoreError};
 use std::alloc::Global;
 use std::test::Fail;
 

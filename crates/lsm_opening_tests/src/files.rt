@@ -2,10 +2,8 @@
 
 use crate::samples::{Changes, has};
 use bytes::Bytes;
-use lsm_below::{Error, TableId};
 use lsm_commit::{remove_tables, write_contents};
-use lsm_store::MemStore;
-use lsm_versions::LIMIT;
+use lsm_state::{Error, LIMIT, MemStore, TableId};
 use std::alloc::Global;
 use std::collections::HashSet;
 use std::test::Fail;

@@ -2,11 +2,7 @@
 
 use crate::layers::{INDEX, make_layers, open_filled};
 use crate::walks::steps;
-use lsm_below::{Error, SeqNo, UserKey};
-use lsm_iter::{End, TreeIter};
-use lsm_model::Op;
-use lsm_state::TreeState;
-use lsm_store::MemStore;
+use lsm_state::{End, Error, MemStore, Op, SeqNo, TreeIter, TreeState, UserKey};
 use std::alloc::Global;
 use std::test::Fail;
 

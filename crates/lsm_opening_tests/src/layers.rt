@@ -3,10 +3,10 @@
 // The value of an entry is the least byte of its sequence number, so that a value tells which entry is given.
 
 use crate::samples::{FORMAT_4, Runs, fill};
-use lsm_below::{Error, InternalValue, SeqNo, UserKey, UserValue, ValueType};
-use lsm_parts::{Config, Memtable};
-use lsm_state::TreeState;
-use lsm_store::{MemStore, StoreError};
+use lsm_state::{
+    Config, Error, InternalValue, MemStore, Memtable, SeqNo, StoreError, TreeState, UserKey,
+    UserValue, ValueType,
+};
 use std::alloc::{AllocError, Global};
 
 /// The key of an entry, its sequence number, and what it does to its key.

@@ -4,11 +4,10 @@ use crate::samples::{
     FORMAT_3, FORMAT_4, FROM_0, FROM_1, File, Format, NO_FORMATS, NO_TABLE, ONE_TABLE, Told,
     UNRECOVERABLE, bytes_of, is_told,
 };
-use lsm_below::Error;
 use lsm_manifest::{
     FormatVersion, Manifest, decode_layout, no_version_begins_another, read_current, write_current,
 };
-use lsm_versions::TreeType;
+use lsm_state::{Error, TreeType};
 use std::alloc::{AllocError, Global};
 use std::test::Fail;
 

@@ -2,7 +2,7 @@
 
 use crate::layers::{ACTIVE, Entry, LEFT, NEWEST, OLDER, RIGHT, SEALED, least_byte};
 use crate::walks::{Shown, Text};
-use lsm_below::{SeqNo, ValueType};
+use lsm_state::{SeqNo, ValueType};
 use std::alloc::{AllocError, Global};
 use std::ops::RangeBounds;
 

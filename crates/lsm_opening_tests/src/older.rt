@@ -5,12 +5,8 @@
 // `put b v`, `flush 9`.
 
 use crate::samples::{Changes, change, has_just};
-use lsm_below::{Error, SeqNo, UserKey};
 use lsm_manifest::{FormatVersion, Manifest, recover};
-use lsm_model::Op;
-use lsm_parts::Config;
-use lsm_state::{Begun, TreeState};
-use lsm_store::{MemStore, Store};
+use lsm_state::{Begun, Config, Error, MemStore, Op, SeqNo, Store, TreeState, UserKey};
 use std::alloc::Global;
 use std::test::Fail;
 

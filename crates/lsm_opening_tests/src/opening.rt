@@ -4,14 +4,11 @@ use crate::samples::{
     Changes, FORMAT_3, FORMAT_4, FROM_0, FROM_1, File, Format, MISMATCH, NO_FORMATS, NO_TABLE,
     ONE_TABLE, TABLE, Told, UNRECOVERABLE, bytes_of, change, has, has_just, is_told, put_version,
 };
-use lsm_below::Error;
 use lsm_manifest::{
     damaged_file, get_current_version, open_files, persist_version, recover, table_name,
     version_name,
 };
-use lsm_parts::Config;
-use lsm_state::TreeState;
-use lsm_store::{Fault, MemStore, Store, StoreError};
+use lsm_state::{Config, Error, Fault, MemStore, Store, StoreError, TreeState};
 use std::alloc::Global;
 use std::test::Fail;
 

@@ -2,12 +2,8 @@
 
 use crate::opening::{ONE, fill_with, open};
 use crate::samples::{Changes, FORMAT_3, FORMAT_4, LATER, Runs, TABLE, fill};
-use lsm_below::{Error, UserKey};
-use lsm_iter::{IterGuard, TreeIter};
-use lsm_model::Op;
-use lsm_parts::Config;
 use lsm_recorded::{Pass, Recorded};
-use lsm_store::{MemStore, Store};
+use lsm_state::{Config, Error, IterGuard, MemStore, Op, Store, TreeIter, UserKey};
 use std::alloc::Global;
 use std::ops::Bound;
 use std::test::Fail;

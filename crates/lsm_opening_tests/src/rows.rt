@@ -4,7 +4,7 @@
 use crate::layers::INDEX;
 use crate::walks::{Shown, Text};
 use Asked::{All, Prefix, Range};
-use lsm_below::SeqNo;
+use lsm_state::SeqNo;
 use std::ops::Bound::{Excluded, Included, Unbounded};
 
 /// Which keys are asked for.

@@ -1,9 +1,7 @@
 // Files, byte by byte, stores of them, and the errors that they are refused with.
 
-use lsm_below::Error;
 use lsm_manifest::{table_name, version_name, write_current};
-use lsm_store::{MemStore, Store, StoreError};
-use lsm_tables::Checksum;
+use lsm_state::{Checksum, Error, MemStore, Store, StoreError};
 use std::alloc::{AllocError, Global};
 
 /// The table a = x at 0, made at 0.

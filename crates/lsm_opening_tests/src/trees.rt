@@ -3,12 +3,7 @@
 use crate::manifests::{CURRENT, CURRENT_3};
 use crate::opening::{ONE, fill_with};
 use crate::samples::{Changes, FORMAT_3, FROM_1, Format, TABLE, bytes_of, has};
-use lsm_below::{Error, UserKey};
-use lsm_iter::IterGuard;
-use lsm_model::Op;
-use lsm_parts::Config;
-use lsm_state::TreeState;
-use lsm_store::{MemStore, Store, StoreError};
+use lsm_state::{Config, Error, IterGuard, MemStore, Op, Store, StoreError, TreeState, UserKey};
 use std::alloc::Global;
 use std::ops::Bound;
 use std::test::Fail;

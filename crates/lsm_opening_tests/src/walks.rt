@@ -1,7 +1,6 @@
 // What an iterator gives, from one end or from both until they meet.
 
-use lsm_below::Error;
-use lsm_iter::{End, Guard, IterGuard, TreeIter};
+use lsm_state::{End, Error, Guard, IterGuard, TreeIter};
 use std::ops::Bound;
 
 /// A key, and the least byte of the sequence number of its entry, which is its value.

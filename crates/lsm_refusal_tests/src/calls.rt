@@ -6,7 +6,7 @@ use crate::rows::{
 };
 use crate::store::Refusal;
 use crate::trials::{Ended, try_row};
-use lsm_store::Fault;
+use lsm_state::Fault;
 use std::alloc::Global;
 use std::process::Abort;
 

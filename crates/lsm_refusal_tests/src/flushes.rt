@@ -2,10 +2,7 @@
 use crate::looks::get;
 use crate::steps::{Tree, open, text, write};
 use crate::store::{Refusal, RefusingStore};
-use lsm_below::{Error, SeqNo};
-use lsm_flush::{FlushJob, WrittenFlush};
-use lsm_model::Op;
-use lsm_store::{Fault, Store};
+use lsm_state::{Error, Fault, FlushJob, Op, SeqNo, Store, WrittenFlush};
 use std::alloc::Global;
 use std::test::Fail;
 

@@ -1,6 +1,6 @@
 // What two trees show and count, beside each other.
 use crate::steps::Tree;
-use lsm_below::{Error, SeqNo, UserValue};
+use lsm_state::{Error, SeqNo, UserValue};
 
 const KEYS: [&str; 3] = ["a", "b", "c"];
 

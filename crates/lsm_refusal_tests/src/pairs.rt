@@ -2,8 +2,7 @@
 use crate::looks::agree;
 use crate::steps::{Player, Step, Told, Tree, give_up, take};
 use crate::store::Refusal;
-use lsm_below::Error;
-use lsm_store::Fault;
+use lsm_state::{Error, Fault};
 use std::alloc::Global;
 
 /// Why calls on both trees ended early.

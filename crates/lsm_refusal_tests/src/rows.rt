@@ -4,9 +4,7 @@ use crate::steps::Step::{
 };
 use crate::steps::Told::{Declined, Flushed, Installed, Job, Nothing, Number, Sizes};
 use crate::steps::{Step, Told};
-use lsm_below::SeqNo;
-use lsm_checks::Why;
-use lsm_iter::End;
+use lsm_state::{End, SeqNo, Why};
 
 /// An end of an iterator, and the key and the value that it gives there: no pair where the key is empty.
 pub type Turn = (End, &'static str, &'static str);

@@ -2,9 +2,9 @@
 use crate::looks::get;
 use crate::rows::{Look, Turn};
 use crate::steps::{Tree, text};
-use lsm_below::{Error, InternalValue, SeqNo, ValueType};
-use lsm_iter::{End, Guard, IterGuard, TreeIter};
-use lsm_parts::Memtable;
+use lsm_state::{
+    End, Error, Guard, InternalValue, IterGuard, Memtable, SeqNo, TreeIter, ValueType,
+};
 use std::alloc::Global;
 
 /// The number of what an index holds.

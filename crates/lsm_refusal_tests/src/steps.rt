@@ -1,12 +1,9 @@
 // Calls on a tree as rows of data, and what each answers.
 use crate::store::RefusingStore;
-use lsm_below::{Error, SeqNo, TableId, UserKey};
-use lsm_checks::{Input, Why};
-use lsm_compaction::CompactionJob;
-use lsm_model::Op;
-use lsm_parts::Config;
-use lsm_pick::{Choice, Leveled, OwnedBounds};
-use lsm_state::{Begun, Finished, Options, TreeState};
+use lsm_state::{
+    Begun, Choice, CompactionJob, Config, Error, Finished, Input, Leveled, Op, Options,
+    OwnedBounds, SeqNo, TableId, TreeState, UserKey, Why,
+};
 use std::alloc::{AllocError, Global};
 use std::collections::HashSet;
 use std::ops::Bound;

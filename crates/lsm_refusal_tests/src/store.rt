@@ -3,7 +3,7 @@ ghost use Rattle.std.specs.Prelude.{◌≡◌};
 ghost use Rattle.lsm_store.specs.Memory.{world_of};
 
 use bytes::Bytes;
-use lsm_store::{Fault, MemStore, Store, StoreError};
+use lsm_state::{Fault, MemStore, Store, StoreError};
 use std::alloc::{AllocError, Global};
 
 /// How a call is refused.

@@ -5,7 +5,7 @@ use crate::rows::Row;
 use crate::shown::are_so;
 use crate::steps::{Player, Tree, open};
 use crate::store::{Refusal, RefusingStore};
-use lsm_below::{Error, SeqNo};
+use lsm_state::{Error, SeqNo};
 use std::alloc::Global;
 
 /// How a row ended.

@@ -1,8 +1,6 @@
 // Calls as rows of a table have them, and the steps that they are.
-use lsm_below::{InternalValue, SeqNo, UserKey};
-use lsm_model::{Op, Ops};
 use lsm_runs::{Count, Counter, JobStep, Slot, Step};
-use lsm_state::Options;
+use lsm_state::{InternalValue, Op, Ops, Options, SeqNo, UserKey};
 use std::alloc::{AllocError, Global};
 use std::ops::Bound;
 

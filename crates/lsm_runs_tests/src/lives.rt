@@ -1,12 +1,8 @@
 // A tree from its opening to a crash, and on from there.
 use crate::calls::{At, Call, Key};
 use crate::rows::{FLUSHED_0, Note, Row, first_wrong, steps_of};
-use lsm_below::Error;
-use lsm_pick::CompactionStrategy;
 use lsm_runs::live;
-use lsm_state::TreeState;
-use lsm_store::{MemStore, Store};
-use lsm_versions::Config;
+use lsm_state::{CompactionStrategy, Config, Error, MemStore, Store, TreeState};
 use std::alloc::Global;
 use std::test::Fail;
 

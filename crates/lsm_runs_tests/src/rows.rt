@@ -1,9 +1,8 @@
 // A table of calls, of what each answers and of what it notes.
 use crate::calls::{Call, step_of};
 use crate::strategies::outcomes;
-use lsm_below::{Error, SeqNo};
-use lsm_model::JournalEntry;
 use lsm_runs::{Outcome, Step};
+use lsm_state::{Error, JournalEntry, SeqNo};
 use std::alloc::{AllocError, Global};
 use std::fmt::Debug;
 

@@ -1,11 +1,9 @@
 // The strategies of each run, by their indexes, and a run on a new tree.
-use lsm_below::{Error, TableId};
-use lsm_checks::Input;
-use lsm_pick::{Choice, ChooseError, CompactionStrategy, Leveled, Major};
 use lsm_runs::{Outcome, Step, run};
-use lsm_state::TreeState;
-use lsm_store::MemStore;
-use lsm_versions::{CompactionState, Config, Version};
+use lsm_state::{
+    Choice, ChooseError, CompactionState, CompactionStrategy, Config, Error, Input, Leveled, Major,
+    MemStore, TableId, TreeState, Version,
+};
 use std::alloc::{AllocError, Global};
 use std::collections::HashSet;
 

@@ -1,8 +1,8 @@
 // Writes, counters and rotations as steps.
 use crate::calls::{Bare, Call, Key};
 use crate::rows::{Note, Row, run_rows};
-use lsm_below::SeqNo;
 use lsm_runs::Counter;
+use lsm_state::SeqNo;
 use std::test::Fail;
 
 const LIMIT: SeqNo = 9_223_372_036_854_775_808;

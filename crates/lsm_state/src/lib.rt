@@ -41,6 +41,29 @@ pub use laws::{
     clears_keep_reads, compactions_are_deeds, compactions_keep_reads, flushes_are_deeds,
     flushes_keep_reads, lists_are_steps, opened_trees_are_fresh, ranges_are_overlaid,
 };
-pub use lsm_below::{MAX_KEY_LEN, MAX_VALUE_LEN};
 pub use opening::Found;
 pub use tree::TreeState;
+
+// What its calls take and answer.
+pub use lsm_below::{
+    Error, InternalValue, KvPair, MAX_KEY_LEN, MAX_VALUE_LEN, MemtableId, SeqNo, TableId, UserKey,
+    UserValue, ValueType,
+};
+pub use lsm_checks::{Input, Why};
+pub use lsm_compaction::{CompactionJob, MergedCompaction};
+pub use lsm_flush::{FlushJob, MergedFlush, Registered, SealedMemtable, WrittenFlush};
+pub use lsm_iter::{
+    End, Guard, IterGuard, IterState, Overlay, Pairs, RangeItem, TreeIter, end_shown,
+    prefix_to_range, take_ends,
+};
+pub use lsm_model::{JournalEntry, Op, Ops};
+pub use lsm_parts::{
+    Config, Iter, LIMIT, Memtable, SealedMemtables, SequenceNumberCounter, Steps, SuperVersion,
+    SuperVersions, Version, VersionId,
+};
+pub use lsm_pick::{
+    Choice, ChooseError, CompactionStrategy, DropRange, Fifo, Leveled, Major, OwnedBounds,
+};
+pub use lsm_store::{Fault, MemStore, Pick, Store, StoreError};
+pub use lsm_tables::Checksum;
+pub use lsm_versions::{CompactionState, TreeType};

@@ -8,8 +8,7 @@ use crate::scripts::{Alike, End, Script, play_alike, play_all};
 use crate::steps::Step::{Clear, Compact, Flush, Forget, Rotate, Set};
 use crate::steps::Told::{Declined, Done, Number, Refused, RefusedSealed, Sealed, Stale};
 use crate::works::{Kind, Work};
-use lsm_checks::Why;
-use lsm_store::Fault;
+use lsm_state::{Fault, Why};
 
 /// a = x in a table, b = y sealed, and c = z in the active memtable.
 const PLACES: [Row; 5] = [

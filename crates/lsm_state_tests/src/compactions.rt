@@ -9,8 +9,7 @@ use crate::scripts::{Alike, End, Script, play_alike, play_all};
 use crate::steps::Step::{Compact, Del, Flush, Set};
 use crate::steps::Told::{Declined, Done, Installed, Job, Nothing, Number, Refused};
 use crate::works::{Kind, Work};
-use lsm_checks::Why;
-use lsm_store::Fault;
+use lsm_state::{Fault, Why};
 
 /// a = x (0), a flush (1), a major compaction (2), a is removed (3), a flush (4).
 const REMOVED: [Row; 5] = [

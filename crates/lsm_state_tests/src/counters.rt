@@ -1,5 +1,5 @@
 // The counter of numbers.
-use lsm_parts::{Error, SequenceNumberCounter};
+use lsm_state::{Error, SequenceNumberCounter};
 
 #[test]
 fn ends_at_the_limit(rt: HostRuntime) {

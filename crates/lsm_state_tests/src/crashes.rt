@@ -5,9 +5,7 @@ use crate::scripts::open;
 use crate::steps::Step::{Compact, Del, Flush, Set};
 use crate::steps::{Step, Told, take};
 use crate::works::Work;
-use lsm_parts::{Config, Error};
-use lsm_state::TreeState;
-use lsm_store::{Fault, MemStore, Pick, Store};
+use lsm_state::{Config, Error, Fault, MemStore, Pick, Store, TreeState};
 use std::alloc::Global;
 use std::process::Abort;
 

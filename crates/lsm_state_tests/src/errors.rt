@@ -1,5 +1,5 @@
 // The numbers and the names of errors.
-use lsm_parts::Error;
+use lsm_state::Error;
 
 #[test]
 fn numbers_and_names(rt: HostRuntime) {

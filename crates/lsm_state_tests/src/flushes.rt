@@ -8,7 +8,7 @@ use crate::steps::Step::{BeginFlush, Del, Flush, FlushParts, Rotate, Set, Weak};
 use crate::steps::Told::{
     Installed, Job, Nothing, Number, Refused, RefusedSealed, Sealed, Unclean,
 };
-use lsm_store::Fault;
+use lsm_state::Fault;
 
 const SNAPSHOTS: [Script; 3] = [
     (

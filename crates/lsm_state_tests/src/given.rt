@@ -1,7 +1,7 @@
 // How several tests look at what iterators give.
-use lsm_below::{InternalValue, SeqNo, UserKey, UserValue};
-use lsm_iter::{Guard, IterGuard, Pairs, TreeIter};
-use lsm_parts::Error;
+use lsm_state::{
+    Error, Guard, InternalValue, IterGuard, Pairs, SeqNo, TreeIter, UserKey, UserValue,
+};
 use std::alloc::Global;
 
 /// Whether a pair of this key was given: none where the name is empty.

@@ -1,8 +1,6 @@
 // What a guard hands out.
 use crate::samples::bytes;
-use lsm_below::{UserKey, UserValue};
-use lsm_iter::{Guard, IterGuard};
-use lsm_parts::Error;
+use lsm_state::{Error, Guard, IterGuard, UserKey, UserValue};
 
 /// What a guard is asked for.
 enum Ask {

@@ -3,9 +3,10 @@ use crate::given::Turn::{Back, BackEntry, Front, FrontEntry};
 use crate::given::{Turn, is, listed, takes};
 use crate::samples::Edge::{In, Open, Out};
 use crate::samples::{Edge, Entry, INDEX, OVER_A_B, add, bounds, filled};
-use lsm_below::{InternalValue, SeqNo};
-use lsm_iter::{End, IterGuard, IterState, Overlay, TreeIter, end_shown, take_ends};
-use lsm_parts::{Error, Memtable, Version};
+use lsm_state::{
+    End, Error, InternalValue, IterGuard, IterState, Memtable, Overlay, SeqNo, TreeIter, Version,
+    end_shown, take_ends,
+};
 use std::alloc::Global;
 use std::process::Abort;
 

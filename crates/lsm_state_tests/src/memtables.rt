@@ -1,8 +1,7 @@
 // Look-ups, sizes and bounds of a memtable, and how many steps its calls take.
 use crate::samples::Edge::{In, Open, Out};
 use crate::samples::{Edge, Entry, bounds, filled, item};
-use lsm_below::{InternalValue, SeqNo};
-use lsm_parts::{Error, Iter, Memtable, Steps};
+use lsm_state::{Error, InternalValue, Iter, Memtable, SeqNo, Steps};
 use std::alloc::Global;
 use std::test::Fail;
 

@@ -1,8 +1,7 @@
 // The bounds of the keys that begin alike.
 use crate::samples::Edge;
 use crate::samples::Edge::{In, Open, Out};
-use lsm_below::UserKey;
-use lsm_iter::prefix_to_range;
+use lsm_state::{UserKey, prefix_to_range};
 use std::alloc::Global;
 use std::ops::Bound;
 

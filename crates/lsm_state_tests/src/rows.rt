@@ -2,9 +2,7 @@
 use crate::given::{Turn, gives, is, lends_ends, lent, listed, takes};
 use crate::samples::{ALL, Bounds, Edge, OVER_A_B, bounds, filled};
 use crate::steps::{Step, Told, take};
-use lsm_below::{MemtableId, SeqNo};
-use lsm_parts::{Error, VersionId};
-use lsm_state::TreeState;
+use lsm_state::{Error, MemtableId, SeqNo, TreeState, VersionId};
 use std::alloc::Global;
 
 /// What is counted of a tree.

@@ -1,6 +1,5 @@
 // What several tests make of rows of data.
-use lsm_below::{InternalValue, MemtableId, SeqNo, UserKey, ValueType};
-use lsm_parts::{Error, Memtable};
+use lsm_state::{Error, InternalValue, Memtable, MemtableId, SeqNo, UserKey, ValueType};
 use std::alloc::Global;
 use std::ops::Bound;
 

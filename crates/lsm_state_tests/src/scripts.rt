@@ -2,11 +2,10 @@
 use crate::rows::{Row, plays};
 use crate::steps::{Told, flushes_times, outcome, registered, written};
 use crate::works::{Kind, choose};
-use lsm_below::{SeqNo, TableId};
-use lsm_compaction::{CompactionJob, MergedCompaction};
-use lsm_parts::{Config, Error};
-use lsm_state::{Begun, Finished, TreeState};
-use lsm_store::{Fault, MemStore};
+use lsm_state::{
+    Begun, CompactionJob, Config, Error, Fault, Finished, MemStore, MergedCompaction, SeqNo,
+    TableId, TreeState,
+};
 use std::alloc::Global;
 use std::process::Abort;
 

@@ -1,12 +1,7 @@
 // Calls on a tree as rows of data, and what each answers.
 use crate::samples::bytes;
 use crate::works::{Work, compact};
-use lsm_below::{MemtableId, SeqNo, UserKey};
-use lsm_checks::Why;
-use lsm_flush::{FlushJob, WrittenFlush};
-use lsm_model::Op;
-use lsm_parts::Error;
-use lsm_state::TreeState;
+use lsm_state::{Error, FlushJob, MemtableId, Op, SeqNo, TreeState, UserKey, Why, WrittenFlush};
 use std::alloc::Global;
 
 /// A call on a tree.

@@ -6,7 +6,7 @@ use crate::scripts::Part::Plays;
 use crate::scripts::{Script, open, play_all};
 use crate::steps::Step::{Batch, Counter, Del, Insert, Long, Remove, Rotate, Set, Weak};
 use crate::steps::Told::{Done, Number, Refused, Sealed, Sizes};
-use lsm_store::MemStore;
+use lsm_state::MemStore;
 use std::test::Fail;
 
 const WRITES: [Script; 6] = [

@@ -1,10 +1,9 @@
 // Sealed memtables, the history of super versions, and which of them maintenance forgets.
 use crate::samples::{add, filled};
-use lsm_below::{MemtableId, SeqNo};
-use lsm_parts::{
-    Error, Memtable, SealedMemtables, SuperVersion, SuperVersions, Version, VersionId,
+use lsm_state::{
+    Error, Fault, MemStore, Memtable, MemtableId, SealedMemtables, SeqNo, Store, SuperVersion,
+    SuperVersions, Version, VersionId,
 };
-use lsm_store::{Fault, MemStore, Store};
 use std::alloc::Global;
 
 // ---- sealed memtables

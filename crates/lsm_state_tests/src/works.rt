@@ -1,11 +1,9 @@
 // Compactions of a tree as data.
 use crate::samples::{Edge, bounds};
 use crate::steps::Told;
-use lsm_below::{SeqNo, TableId};
-use lsm_checks::Input;
-use lsm_parts::Error;
-use lsm_pick::{Choice, Fifo, Leveled, OwnedBounds};
-use lsm_state::{Begun, Options, TreeState};
+use lsm_state::{
+    Begun, Choice, Error, Fifo, Input, Leveled, Options, OwnedBounds, SeqNo, TableId, TreeState,
+};
 use std::alloc::{AllocError, Global};
 use std::collections::HashSet;
 
