@@ -94,26 +94,7 @@ struct Bench<'a, R, P: Place> {
     start: Instant,
 }
 
-impl<R, P: Place> Bench<'_, R, P>
-where
-    R: AllocGlobal + Clock + Eprint + Files + Print + Wait,
-{
-    /// Runs the workloads of a table, and prints the line of each as it ends. Without times it leaves out what has no check.
-    fn run_all(&mut self, rows: &[Row]) -> Result<()> {
-        for (place, row) in rows.iter().enumerate() {
-            let (name, work) = (row.0, row.4);
-            if !self.plan.has_row(name) || work == Work::Weigh && !self.plan.with_times {
-                continue;
-            }
-            self.show(place.saturating_add(1), rows.len(), name);
-            let done = self.run(row);
-            self.show_end();
-            let figures = done.context(format_args!("in {name}"))?;
-            self.print(name, figures)?;
-        }
-        Ok(())
-    }
-
+impl<R: AllocGlobal + Clock + Eprint + Files + Print, P: Place> Bench<'_, R, P> {
     /// Says which workload begins. A run goes on where the line can't be written.
     fn show(&self, number: usize, count: usize, name: &str) {
         if self.is_watched {
@@ -136,6 +117,59 @@ where
             println!(self.rt; "{name} {keys} {ops} {seconds}.{nanos:09} {check}")?;
         } else {
             println!(self.rt; "{name} {keys} {ops} {check}")?;
+        }
+        Ok(())
+    }
+
+    /// Opens the tree that a store holds.
+    fn open(&mut self, kind: Kind, store: P::Store) -> Result<()> {
+        let tree = AnyTree::open(kind, self.rt.alloc(), store)?;
+        drop(self.tree.replace(tree));
+        Ok(())
+    }
+
+    /// The bytes of this process in memory, 0 in a run that has no line for them.
+    fn resident_bytes(&self) -> Result<u64> {
+        if !self.plan.with_times {
+            return Ok(0);
+        }
+        resident_bytes(self.rt)
+    }
+
+    /// How many bytes a key the tree has added to this process.
+    fn weigh(&self) -> Result<u64> {
+        let added = self.resident_bytes()?.saturating_sub(self.before);
+        Ok(added.checked_div(self.plan.keys as u64).unwrap_or(0))
+    }
+
+    /// Closes the tree, and opens it again. The workload begins with the opening.
+    fn reopen(&mut self, kind: Kind) -> Result<()> {
+        let Some(tree) = self.tree.take() else {
+            bail!(NO_TREE)
+        };
+        let store = tree.into_store()?;
+        self.start = Instant::now(self.rt)?;
+        self.open(kind, store)?;
+        Ok(())
+    }
+}
+
+impl<R, P: Place> Bench<'_, R, P>
+where
+    R: AllocGlobal + Clock + Eprint + Files + Print + Wait,
+{
+    /// Runs the workloads of a table, and prints the line of each as it ends. Without times it leaves out what has no check.
+    fn run_all(&mut self, rows: &[Row]) -> Result<()> {
+        for (place, row) in rows.iter().enumerate() {
+            let (name, work) = (row.0, row.4);
+            if !self.plan.has_row(name) || work == Work::Weigh && !self.plan.with_times {
+                continue;
+            }
+            self.show(place.saturating_add(1), rows.len(), name);
+            let done = self.run(row);
+            self.show_end();
+            let figures = done.context(format_args!("in {name}"))?;
+            self.print(name, figures)?;
         }
         Ok(())
     }
@@ -181,21 +215,6 @@ where
         Ok(())
     }
 
-    /// Opens the tree that a store holds.
-    fn open(&mut self, kind: Kind, store: P::Store) -> Result<()> {
-        let tree = AnyTree::open(kind, self.rt.alloc(), store)?;
-        drop(self.tree.replace(tree));
-        Ok(())
-    }
-
-    /// The bytes of this process in memory, 0 in a run that has no line for them.
-    fn resident_bytes(&self) -> Result<u64> {
-        if !self.plan.with_times {
-            return Ok(0);
-        }
-        resident_bytes(self.rt)
-    }
-
     /// Does so many operations, and returns their check.
     fn work(&mut self, kind: Kind, work: Work, ops: usize) -> Result<u64> {
         if work == Work::Reopen || work == Work::ReopenAndGet {
@@ -223,22 +242,5 @@ where
             Work::Mix => mix(rt, alloc, tree, puts),
             Work::Clear => clear_all(tree, ops),
         }
-    }
-
-    /// How many bytes a key the tree has added to this process.
-    fn weigh(&self) -> Result<u64> {
-        let added = self.resident_bytes()?.saturating_sub(self.before);
-        Ok(added.checked_div(self.plan.keys as u64).unwrap_or(0))
-    }
-
-    /// Closes the tree, and opens it again. The workload begins with the opening.
-    fn reopen(&mut self, kind: Kind) -> Result<()> {
-        let Some(tree) = self.tree.take() else {
-            bail!(NO_TREE)
-        };
-        let store = tree.into_store()?;
-        self.start = Instant::now(self.rt)?;
-        self.open(kind, store)?;
-        Ok(())
     }
 }

@@ -17,16 +17,16 @@ pub fn list<S: Store>(
 ) -> Result<u64, Error> {
     let snapshot = tree.visible_seqno().get();
     let calls = match span {
-        Span::All => ids.len().min(1),
+        Span::Whole => ids.len().min(1),
         Span::Range | Span::Open | Span::Group => ids.len(),
     };
     let mut sum = 0u64;
     for id in &ids[..calls] {
         let bounds = bounds_of(alloc, span, *id)?;
         let part = match way {
-            Way::Copied => sum_copied(tree, span, *id, &bounds, snapshot)?,
+            Way::Iter => sum_copied(tree, span, *id, &bounds, snapshot)?,
             Way::Lent => sum_lent(tree, span, *id, &bounds, snapshot)?,
-            Way::LentBack => sum_back(tree.pairs(&bounds, snapshot, None)?),
+            Way::Back => sum_back(tree.pairs(&bounds, snapshot, None)?),
         };
         sum = sum.wrapping_add(part);
     }
@@ -36,7 +36,7 @@ pub fn list<S: Store>(
 /// The bounds of what one call lists. Those of a group are its prefix.
 fn bounds_of(alloc: Global, span: Span, id: u64) -> Result<Bounds, AllocError> {
     Ok(match span {
-        Span::All | Span::Group => (Bound::Unbounded, Bound::Unbounded),
+        Span::Whole | Span::Group => (Bound::Unbounded, Bound::Unbounded),
         Span::Range => (
             Bound::Included(user_key(alloc, id)?),
             Bound::Excluded(user_key(alloc, id.saturating_add(RANGE))?),
@@ -49,7 +49,7 @@ fn bounds_of(alloc: Global, span: Span, id: u64) -> Result<Bounds, AllocError> {
 fn most_of(span: Span) -> u64 {
     match span {
         Span::Open => RANGE,
-        Span::All | Span::Range | Span::Group => u64::MAX,
+        Span::Whole | Span::Range | Span::Group => u64::MAX,
     }
 }
 

@@ -2,8 +2,8 @@
 use Filling::{Empty, Flat, Random, Runs};
 use Kind::{Locked, Logged, Owned, Recorded};
 use Order::{Puts, Rising, Same};
-use Span::{Group, Open, Range};
-use Way::{Copied, Lent, LentBack};
+use Span::{Group, Open, Range, Whole};
+use Way::{Back, Iter, Lent};
 use Work::{Clear, Flush, Get, Ingest, List, Merge, Miss, Mix, Put, Reopen, ReopenAndGet, Weigh};
 
 /// A kind of tree.
@@ -47,17 +47,19 @@ pub enum Order {
 /// How entries come out of a tree.
 #[derive(Clone, Copy, PartialEq, Eq)]
 pub enum Way {
-    Copied,
+    /// Copied, as `iter` returns them.
+    Iter,
+    /// Lent, as `pairs` does.
     Lent,
-    /// Lent, from the end.
-    LentBack,
+    /// The same from the end.
+    Back,
 }
 
 /// What one call lists.
 #[derive(Clone, Copy, PartialEq, Eq)]
 pub enum Span {
     /// All entries.
-    All,
+    Whole,
     /// The keys from that of an id on and below that of the id 100 above.
     Range,
     /// The first 100 keys from that of an id on, with no upper bound.
@@ -112,48 +114,30 @@ pub const WORKLOADS: [Row; 40] = [
     ("bytes_mem", Owned, Random, ALL, Weigh),
     ("get_mem", Owned, Random, ALL, Get),
     ("miss_mem", Owned, Random, ALL, Miss),
-    ("scan_mem", Owned, Random, ALL, List(Copied, Span::All)),
-    ("range100_mem", Owned, Random, 10_000, List(Copied, Range)),
-    (
-        "range100_open_mem",
-        Owned,
-        Random,
-        1_000,
-        List(Copied, Open),
-    ),
-    ("prefix_mem", Owned, Random, 10_000, List(Copied, Group)),
-    ("pairs_mem", Owned, Random, ALL, List(Lent, Span::All)),
-    (
-        "pairs_back_mem",
-        Owned,
-        Random,
-        ALL,
-        List(LentBack, Span::All),
-    ),
+    ("scan_mem", Owned, Random, ALL, List(Iter, Whole)),
+    ("range100_mem", Owned, Random, 10_000, List(Iter, Range)),
+    ("range100_open_mem", Owned, Random, 1_000, List(Iter, Open)),
+    ("prefix_mem", Owned, Random, 10_000, List(Iter, Group)),
+    ("pairs_mem", Owned, Random, ALL, List(Lent, Whole)),
+    ("pairs_back_mem", Owned, Random, ALL, List(Back, Whole)),
     ("pairs100_mem", Owned, Random, 10_000, List(Lent, Range)),
     ("pairs100_open_mem", Owned, Random, 10_000, List(Lent, Open)),
     ("pairs_prefix_mem", Owned, Random, 10_000, List(Lent, Group)),
     ("flush_mem", Owned, Random, ALL, Flush),
     ("get_flat", Owned, Flat, ALL, Get),
     ("miss_flat", Owned, Flat, ALL, Miss),
-    ("scan_flat", Owned, Flat, ALL, List(Copied, Span::All)),
-    ("range100_flat", Owned, Flat, 10_000, List(Copied, Range)),
-    ("prefix_flat", Owned, Flat, 10_000, List(Copied, Group)),
-    ("pairs_flat", Owned, Flat, ALL, List(Lent, Span::All)),
-    (
-        "pairs_back_flat",
-        Owned,
-        Flat,
-        ALL,
-        List(LentBack, Span::All),
-    ),
+    ("scan_flat", Owned, Flat, ALL, List(Iter, Whole)),
+    ("range100_flat", Owned, Flat, 10_000, List(Iter, Range)),
+    ("prefix_flat", Owned, Flat, 10_000, List(Iter, Group)),
+    ("pairs_flat", Owned, Flat, ALL, List(Lent, Whole)),
+    ("pairs_back_flat", Owned, Flat, ALL, List(Back, Whole)),
     ("pairs100_flat", Owned, Flat, 10_000, List(Lent, Range)),
     ("pairs_prefix_flat", Owned, Flat, 10_000, List(Lent, Group)),
     ("reopen_mem", Owned, Flat, ALL, Reopen),
     ("reopen_read_mem", Owned, Flat, ALL, ReopenAndGet),
     ("get_runs4", Owned, Runs, ALL, Get),
-    ("scan_runs4", Owned, Runs, ALL, List(Copied, Span::All)),
-    ("pairs_runs4", Owned, Runs, ALL, List(Lent, Span::All)),
+    ("scan_runs4", Owned, Runs, ALL, List(Iter, Whole)),
+    ("pairs_runs4", Owned, Runs, ALL, List(Lent, Whole)),
     ("major4", Owned, Runs, ALL, Merge),
     ("ingest4", Owned, Empty, ALL, Ingest),
     ("mixed", Owned, Empty, ALL, Mix),
