@@ -162,7 +162,7 @@ where
     fn run_all(&mut self, rows: &[Row]) -> Result<()> {
         for (place, row) in rows.iter().enumerate() {
             let (name, work) = (row.0, row.4);
-            if !self.plan.has_row(name) || work == Work::Weigh && !self.plan.with_times {
+            if !self.plan.has_row(name) || matches!(work, Work::Weigh) && !self.plan.with_times {
                 continue;
             }
             self.show(place.saturating_add(1), rows.len(), name);
@@ -217,7 +217,7 @@ where
 
     /// Does so many operations, and returns their check.
     fn work(&mut self, kind: Kind, work: Work, ops: usize) -> Result<u64> {
-        if work == Work::Reopen || work == Work::ReopenAndGet {
+        if matches!(work, Work::Reopen | Work::ReopenAndGet) {
             self.reopen(kind)?;
         }
         let (rt, alloc) = (self.rt, self.rt.alloc());

@@ -33,7 +33,7 @@ pub enum Filling {
 }
 
 /// An order of ids.
-#[derive(Clone, Copy, PartialEq, Eq)]
+#[derive(Clone, Copy)]
 pub enum Order {
     Rising,
     /// In random order.
@@ -45,7 +45,7 @@ pub enum Order {
 }
 
 /// How entries come out of a tree.
-#[derive(Clone, Copy, PartialEq, Eq)]
+#[derive(Clone, Copy)]
 pub enum Way {
     /// Copied, as `iter` returns them.
     Iter,
@@ -56,7 +56,7 @@ pub enum Way {
 }
 
 /// What one call lists.
-#[derive(Clone, Copy, PartialEq, Eq)]
+#[derive(Clone, Copy)]
 pub enum Span {
     /// All entries.
     Whole,
@@ -69,7 +69,7 @@ pub enum Span {
 }
 
 /// What a workload does.
-#[derive(Clone, Copy, PartialEq, Eq)]
+#[derive(Clone, Copy)]
 pub enum Work {
     /// Puts keys in this order, so many a batch.
     Put(Order, usize),
