@@ -189,9 +189,10 @@ where
         }
         self.stands = match work {
             Work::Put(Order::Puts, _) if kind != Kind::Logged => Some((kind, Filling::Random)),
-            Work::Put(..) | Work::Merge | Work::Ingest | Work::Mix | Work::Clear => None,
             Work::Flush => Some((kind, Filling::Flat)),
-            _ => Some((kind, filling)),
+            Work::Put(..) | Work::Merge | Work::Ingest | Work::Mix | Work::Clear => None,
+            Work::Get | Work::Miss | Work::List(..) | Work::Weigh => Some((kind, filling)),
+            Work::Reopen | Work::ReopenAndGet => Some((kind, filling)),
         };
         self.start = Instant::now(self.rt)?;
         let check = self.work(kind, work, ops)?;

@@ -26,7 +26,7 @@ impl Place for Memory {
 }
 
 /// A tree stands in a folder that was absent or empty, in which nobody else writes meanwhile.
-#[derive(Clone, Copy)]
+#[derive(Drop)]
 pub struct Folder<'a, R> {
     rt: &'a R,
     path: &'a str,
@@ -49,8 +49,8 @@ impl<'a, R: AllocGlobal + Clone + Drop + Files<File = File> + Send> Folder<'a, R
     }
 
     /// Leaves the folder as it was.
-    pub fn clear(self) -> Result<()> {
-        fs::remove_dir_all(self.rt, self.path)?;
+    pub fn clear(&self) -> Result<()> {
+        remove(self.rt, self.path)?;
         if !self.was_absent {
             fs::create_dir(self.rt, self.path)?;
         }
@@ -58,13 +58,19 @@ impl<'a, R: AllocGlobal + Clone + Drop + Files<File = File> + Send> Folder<'a, R
     }
 }
 
+/// Removes the folder where it is there.
+fn remove<R: AllocGlobal + Files>(rt: &R, path: &str) -> Result<()> {
+    if fs::exists(rt, path)? {
+        fs::remove_dir_all(rt, path)?;
+    }
+    Ok(())
+}
+
 impl<R: AllocGlobal + Clone + Drop + Files<File = File> + Send> Place for Folder<'_, R> {
     type Store = FolderStore<R>;
 
     fn store(&self, alloc: Global) -> Result<FolderStore<R>> {
-        if fs::exists(self.rt, self.path)? {
-            fs::remove_dir_all(self.rt, self.path)?;
-        }
+        remove(self.rt, self.path)?;
         Ok(FolderStore::new(self.rt, alloc, self.path)?)
     }
 }
