@@ -7,10 +7,6 @@
 //! folder, or after `-` for none, are run alone, so that a profile sees one of them. docs/PERFORMANCE.md says what
 //! each workload does.
 //!
-//! `lsm_bench --svg bars FILE` prints a picture of figures that stand in a file: lines as above, of which the middle of each
-//! workload counts, and lines `WORKLOAD KEYS NANOSECONDS PROGRAM` of other programs. `--svg growth` draws them against the
-//! number of keys.
-//!
 //! On standard error it says at first which program this is and how many processors it may use: `rt run` builds
 //! `out/lsm_bench` of what is proved alone, and any other program that has these sources may be slower.
 //!
@@ -20,39 +16,37 @@
 //! | Module | Holds |
 //! |-|-|
 //! | `workloads` | the table of workloads |
-//! | `points` | workloads that write or read one key at a time, on any tree, and flushes |
+//! | `bench` | the run of one workload after the other |
+//! | `points` | workloads that write or read one key at a time, on any tree |
 //! | `lists` | workloads that read many keys at a time |
 //! | `merges` | workloads that merge tables |
-//! | `logs` | workloads on a tree with a log above it |
-//! | `trees` | the trees that workloads find |
-//! | `bench` | the run of one workload after the other |
-//! | `report` | the line of a workload |
-//! | `pictures` | pictures of figures |
-//! | `progress` | how far the run is, on a terminal |
+//! | `trees` | the trees that workloads find, of each kind |
+//! | `places` | where they stand: in memory, or in a folder |
+//! | `orders`, `keys` | the orders of keys; keys and values |
+//! | `resident` | the bytes of this process in memory |
+//! | `arguments` | what the program's arguments ask |
 #![tactic(auto)]
 
+mod arguments;
 mod bench;
+mod keys;
 mod lists;
-mod logs;
 mod merges;
-mod pictures;
+mod orders;
+mod places;
 mod points;
-mod progress;
-mod report;
+mod resident;
 mod trees;
 mod workloads;
 
-use anyhow::Error;
+use anyhow::{Error, anyhow};
+use arguments::parse_arguments;
 use bench::run_workloads;
-use lsm_bench_parts::{BadArguments, Plan, parse_arguments, parse_picture};
-use pictures::print_picture;
-use progress::Progress;
-use std::io::ErrorKind;
+use std::io::{ErrorKind, IsTerminal};
 use std::process::ExitCode;
 use std::rt::{Env, Files};
 use std::thread::{Threads, available_parallelism};
 use std::{env, io};
-use workloads::is_workload;
 
 const USAGE: u8 = 2;
 
@@ -60,32 +54,20 @@ fn main(rt: HostRuntime) -> ExitCode {
     let words = match list_arguments(&rt) {
         Ok(words) => words,
         Err(error) if error.kind() == ErrorKind::InvalidData => {
-            return tell_usage(&rt, BadArguments::NoText);
+            return tell_usage(&rt, anyhow!("an argument is no text"));
         }
         Err(error) => return tell_fault(&rt, Error::from(error)),
     };
-    match parse_picture(&words) {
-        None => {}
-        Some(Ok((kind, path))) => return end(&rt, print_picture(&rt, kind, path)),
-        Some(Err(error)) => return tell_usage(&rt, error),
-    }
     let plan = match parse_arguments(&words) {
-        Ok(plan) if are_workloads(plan.rows) => plan,
-        Ok(_) => return tell_usage(&rt, BadArguments::NoRow),
+        Ok(plan) => plan,
         Err(error) => return tell_usage(&rt, error),
     };
     if plan.with_times {
-        tell_program(&rt, plan);
+        tell_program(&rt, plan.keys);
     }
-    let mut progress = Progress::new(rt.stderr());
-    end(&rt, run_workloads(&rt, &rt, &mut progress, plan))
-}
-
-/// The status in which a run or a picture ended.
-fn end(rt: &impl Eprint, ended: Result<(), Error>) -> ExitCode {
-    match ended {
+    match run_workloads(&rt, &rt, plan, rt.stderr().is_terminal()) {
         Ok(()) => ExitCode::SUCCESS,
-        Err(error) => tell_fault(rt, error),
+        Err(error) => tell_fault(&rt, error),
     }
 }
 
@@ -95,31 +77,20 @@ fn list_arguments<R: Env + AllocGlobal>(rt: &R) -> io::Result<Vec<String>> {
     Ok(words)
 }
 
-/// Whether there is a workload of each of these names.
-fn are_workloads(rows: Option<&[String]>) -> bool {
-    match rows {
-        Some(rows) => rows.iter().all(|row| is_workload(row.as_str())),
-        None => true,
-    }
-}
-
 /// Says what is measured, and on how many processors. The run goes on where this can't be told.
-fn tell_program<R: Env + AllocGlobal + Files + Threads + Eprint>(rt: &R, plan: Plan<'_>) {
+fn tell_program<R: Env + AllocGlobal + Files + Threads + Eprint>(rt: &R, keys: usize) {
     let cores = available_parallelism(rt).map_or(0, |count| count.get());
     let path = env::current_exe(rt);
     let program = match &path {
         Ok(path) => path.as_str(),
         Err(_) => "lsm_bench",
     };
-    let keys = plan.keys;
     let _ = eprintln!(rt; "{program}: {keys} keys of 16 bytes, values of 100, {cores} processors");
 }
 
 /// Says why the arguments ask nothing. Nothing is left to be told where even this can't be written.
-fn tell_usage(rt: &impl Eprint, error: BadArguments) -> ExitCode {
-    let _ = eprintln!(rt;
-        "lsm_bench: {error}\nusage: lsm_bench [N [FOLDER | - [WORKLOAD ..]]]\n       lsm_bench --svg bars|growth FILE"
-    );
+fn tell_usage(rt: &impl Eprint, error: Error) -> ExitCode {
+    let _ = eprintln!(rt; "lsm_bench: {error}\nusage: lsm_bench [N [FOLDER | - [WORKLOAD ..]]]");
     ExitCode::from(USAGE)
 }
 

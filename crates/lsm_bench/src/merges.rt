@@ -1,79 +1,90 @@
 // Workloads that merge tables, on a tree with one owner.
-ghost use Rattle.std.specs.Prelude.{◌<◌};
-
-use crate::points::{flush_seen, put_all};
-use crate::report::Tally;
-use crate::workloads::Ingest;
-use lsm_bench_parts::put_len;
-use lsm_tree::{CompactionStrategy, Error, Leveled, SeqNo, Store, TableId, TreeState};
+use crate::keys::PAIR_LEN;
+use crate::points::{flush_seen, put, put_parts};
+use crate::trees::AnyTree;
+use anyhow::{Result, bail};
+use lsm_tree::{CompactionStrategy, Leveled, Store, TableId, TreeState};
 use std::alloc::Global;
+use std::sync::Wait;
 
 /// A table of a merge ends as soon as its entries have so many bytes: 64 MiB.
 const TARGET: u64 = 67_108_864;
 
-/// Into how many parts keys are put that are merged at the end, and into how many those that `Leveled` merges in between.
-const QUARTERS: usize = 4;
-
+/// Into how many parts keys are put where `Leveled` merges in between.
 const PARTS: usize = 16;
 
-/// How often a tree is cleared at most. A clear takes as long as memtables are held, to which each clear adds one.
-const MOST_CLEARS: usize = 100;
-
-/// Every write so far is seen from here on.
-fn watermark<S: Store>(tree: &TreeState<S>) -> SeqNo {
-    tree.visible_seqno().get()
-}
+const NOT_OWNED: &str = "it has more than one owner";
 
 /// Merges all tables into the last level. The check is how many entries are left.
-pub fn merge_all<S: Store>(tree: &mut TreeState<S>, keys: usize) -> Result<Tally, Error> {
-    let watermark = watermark(tree);
+pub fn merge_all<S: Store>(tree: &mut AnyTree<S>) -> Result<u64> {
+    let AnyTree::Owned(tree) = tree else {
+        bail!(NOT_OWNED)
+    };
+    let watermark = tree.visible_seqno().get();
     tree.major_compact(TARGET, watermark)?;
-    Ok(Tally {
-        ops: keys,
-        check: tree.approximate_len() as u64,
-    })
+    Ok(tree.approximate_len() as u64)
 }
 
-/// Clears a tree as many times as there are keys, 100 times at most, each of which commits a version without tables. The
-/// check is the id of the last version.
-pub fn clear_all<S: Store>(tree: &mut TreeState<S>, keys: usize) -> Result<Tally, Error> {
-    let times = keys.min(MOST_CLEARS);
+/// Clears a tree so many times, each of which commits a version without tables. The check is the id of the last version.
+pub fn clear_all<S: Store>(tree: &mut AnyTree<S>, times: usize) -> Result<u64> {
+    let AnyTree::Owned(tree) = tree else {
+        bail!(NOT_OWNED)
+    };
     for _ in 0..times {
         tree.clear()?;
     }
-    Ok(Tally {
-        ops: times,
-        check: tree.current_version().id(),
-    })
+    Ok(tree.current_version().id())
 }
 
-/// Puts keys into a tree in parts, each of which is flushed, and merges tables as it is said.
-pub fn ingest<S: Store>(
+/// Puts keys in four parts, flushes each, and merges all tables.
+pub fn ingest<S: Store + Send>(
+    rt: &impl Wait,
     alloc: Global,
-    tree: &mut TreeState<S>,
-    way: Ingest,
+    tree: &mut AnyTree<S>,
     ids: &[u64],
-) -> Result<Tally, Error> {
-    match way {
-        Ingest::Once => {
-            put_and_flush(alloc, tree, ids)?;
-            merge_all(tree, ids.len())
-        }
-        Ingest::Leveled => mix(alloc, tree, ids),
-    }
+) -> Result<u64> {
+    put_parts(rt, alloc, tree, ids, 4)?;
+    merge_all(tree)
 }
 
-/// Puts keys in four parts, and flushes each.
-fn put_and_flush<S: Store>(
+/// Puts keys in 16 parts; flushes each, and compacts after it as `Leveled` chooses. The check is the write amplification in
+/// per cent: how many bytes of tables were written for 100 bytes of keys and values.
+pub fn mix<S: Store + Send>(
+    rt: &impl Wait,
     alloc: Global,
-    tree: &mut TreeState<S>,
+    tree: &mut AnyTree<S>,
     ids: &[u64],
-) -> Result<(), Error> {
-    for part in ids.chunks(ids.len().div_ceil(QUARTERS).max(1)) {
-        put_all(alloc, tree, part)?;
-        flush_seen(tree)?;
+) -> Result<u64> {
+    let leveled = Leveled::new(alloc)?;
+    let mut written = 0u64;
+    for part in ids.chunks(ids.len().div_ceil(PARTS).max(1)) {
+        put(rt, alloc, tree, part, 1)?;
+        written = written.saturating_add(flush_counted(rt, tree)?);
+        written = written.saturating_add(compact_counted(tree, &leveled)?);
     }
-    Ok(())
+    let put = PAIR_LEN.saturating_mul(ids.len() as u64);
+    Ok(written.saturating_mul(100).checked_div(put).unwrap_or(0))
+}
+
+/// Flushes what was put, and returns the bytes of the tables that were written.
+fn flush_counted<S: Store + Send>(rt: &impl Wait, tree: &mut AnyTree<S>) -> Result<u64> {
+    let first = tree.state()?.next_table_id();
+    flush_seen(rt, tree)?;
+    Ok(bytes_from(tree.state()?, first))
+}
+
+/// Compacts, and returns the bytes of the tables that were written.
+fn compact_counted<S: Store>(
+    tree: &mut AnyTree<S>,
+    strategy: &dyn CompactionStrategy,
+) -> Result<u64> {
+    let AnyTree::Owned(tree) = tree else {
+        bail!(NOT_OWNED)
+    };
+    let first = tree.next_table_id();
+    let watermark = tree.visible_seqno().get();
+    tree.compact(strategy, watermark)?;
+    Ok(bytes_from(tree, first))
 }
 
 /// The bytes of the tables from this id on.
@@ -85,39 +96,4 @@ fn bytes_from<S: Store>(tree: &TreeState<S>, first: TableId) -> u64 {
         }
     }
     bytes
-}
-
-/// Flushes what was put, and returns the bytes of the tables that were written.
-fn flush_counted<S: Store>(tree: &mut TreeState<S>) -> Result<u64, Error> {
-    let first = tree.next_table_id();
-    flush_seen(tree)?;
-    Ok(bytes_from(tree, first))
-}
-
-/// Compacts, and returns the bytes of the tables that were written.
-fn compact_counted<S: Store>(
-    tree: &mut TreeState<S>,
-    strategy: &dyn CompactionStrategy,
-) -> Result<u64, Error> {
-    let first = tree.next_table_id();
-    let watermark = watermark(tree);
-    tree.compact(strategy, watermark)?;
-    Ok(bytes_from(tree, first))
-}
-
-/// Puts keys in 16 parts; flushes each, and compacts after it as `Leveled` chooses. The check is the write amplification in
-/// per cent: how many bytes of tables were written for 100 bytes of keys and values.
-fn mix<S: Store>(alloc: Global, tree: &mut TreeState<S>, ids: &[u64]) -> Result<Tally, Error> {
-    let leveled = Leveled::new(alloc)?;
-    let mut written = 0u64;
-    for part in ids.chunks(ids.len().div_ceil(PARTS).max(1)) {
-        put_all(alloc, tree, part)?;
-        written = written.saturating_add(flush_counted(tree)?);
-        written = written.saturating_add(compact_counted(tree, &leveled)?);
-    }
-    let put = put_len(ids.len());
-    Ok(Tally {
-        ops: ids.len(),
-        check: written.saturating_mul(100).checked_div(put).unwrap_or(0),
-    })
 }

@@ -1,10 +1,12 @@
-// The trees that stay between workloads, one at a time.
-ghost use Rattle.std.specs.Prelude.{◌≡◌, IsSome, true};
-
-use crate::points::Noted;
-use crate::workloads::Filling;
-use lsm_tree::{Config, Error, Handle, Logged, Pass, Recorded, Store, Tree, TreeState};
+// The trees that workloads find, of each kind.
+use crate::workloads::Kind;
+use anyhow::{Result, bail};
+use lsm_tree::{
+    Config, Error, Handle, Logged, MemtableId, Op, Pass, Recorded, Registered, SeqNo, Store, Tree,
+    TreeState, UserKey, UserValue,
+};
 use std::alloc::Global;
+use std::sync::Wait;
 
 /// Where the counters of an empty tree start.
 const START: Config = Config {
@@ -13,128 +15,113 @@ const START: Config = Config {
     visible_seqno: 0,
 };
 
-fn open_state<S: Store>(alloc: Global, config: Config, store: S) -> Result<TreeState<S>, Error> {
-    match TreeState::open(alloc, config, store) {
+/// A tree of one of the kinds.
+#[derive(Drop)]
+pub enum AnyTree<S: Store> {
+    Owned(TreeState<S>),
+    Locked(Tree<S>),
+    /// With the pass of its one caller.
+    Recorded(Recorded<S>, Pass),
+    Logged(Logged<S>),
+}
+
+/// What a flush of the active memtable answers.
+type Flushed = Result<(Option<MemtableId>, Option<(u64, Registered)>), (Error, Option<MemtableId>)>;
+
+/// A tree with one owner, with its counters above what the store holds.
+fn open_owned<S: Store>(alloc: Global, store: S) -> Result<TreeState<S>, Error> {
+    match TreeState::open_raised(alloc, START, store) {
         Ok(tree) => Ok(tree),
         Err((error, _)) => Err(error),
     }
 }
 
-/// A tree with one owner, of an empty store.
-pub fn open_owned<S: Store>(alloc: Global, store: S) -> Result<TreeState<S>, Error> {
-    open_state(alloc, START, store)
-}
-
-/// A tree behind a lock, of an empty store.
-pub fn open_locked<S: Store + Send>(alloc: Global, store: S) -> Result<Tree<S>, Error> {
-    let tree = Handle::new(alloc, open_state(alloc, START, store)?)?;
+fn open_locked<S: Store + Send>(alloc: Global, store: S) -> Result<Tree<S>, Error> {
+    let tree = Handle::new(alloc, open_owned(alloc, store)?)?;
     Ok(tree)
 }
 
-/// A recorded tree, of an empty store.
-pub fn open_recorded<S: Store>(alloc: Global, store: S) -> Result<Noted<S>, Error> {
-    match Recorded::open(alloc, START, store) {
-        Ok(tree) => Ok(Noted {
-            tree,
-            pass: Pass::new(alloc),
-        }),
-        Err((error, _)) => Err(error),
-    }
-}
-
-/// A logged tree of a store, be it empty or not.
-pub fn open_logged<S: Store>(alloc: Global, store: S) -> Result<Logged<S>, Error> {
-    match Logged::open(alloc, START, store) {
-        Ok(tree) => Ok(tree),
-        Err((error, _)) => Err(error),
-    }
-}
-
-/// A tree of one kind, and how it was filled.
-#[derive(Drop)]
-pub struct Slot<T> {
-    pub tree: Option<T>,
-    pub filling: Filling,
-    /// The bytes that the puts added to this process, of a tree with one owner.
-    pub added: u64,
-}
-
-impl<T: Drop> Slot<T> {
-    fn new() -> Slot<T> {
-        Slot {
-            tree: None,
-            filling: Filling::Rising,
-            added: 0,
+impl<S: Store + Send> AnyTree<S> {
+    /// The tree that a store holds, which may be empty.
+    pub fn open(kind: Kind, alloc: Global, store: S) -> Result<AnyTree<S>, Error> {
+        match kind {
+            Kind::Owned => Ok(AnyTree::Owned(open_owned(alloc, store)?)),
+            Kind::Locked => Ok(AnyTree::Locked(open_locked(alloc, store)?)),
+            Kind::Recorded => match Recorded::open(alloc, START, store) {
+                Ok(tree) => Ok(AnyTree::Recorded(tree, Pass::new(alloc))),
+                Err((error, _)) => Err(error),
+            },
+            Kind::Logged => match Logged::open(alloc, START, store) {
+                Ok(tree) => Ok(AnyTree::Logged(tree)),
+                Err((error, _)) => Err(error),
+            },
         }
     }
 
-    pub fn clear(&mut self) {
-        drop(self.tree.take());
-    }
-
-    /// Keeps a tree, in the place of the one before.
-    pub fn put(&mut self, tree: T, filling: Filling)
-        ensures { IsSome self.new.tree }
-    {
-        drop(self.tree.replace(tree));
-        self.filling = filling;
-        self.added = 0;
-    }
-
-    /// Whether there is a tree that was filled so.
-    pub fn has(&self, filling: Filling) -> bool
-        ensures { result ≡ true → IsSome self.now.tree }
-    {
-        self.filling == filling && self.tree.is_some()
-    }
-}
-
-/// A tree of each kind at most.
-#[derive(Drop)]
-pub struct Trees<S: Store> {
-    pub owned: Slot<TreeState<S>>,
-    pub locked: Slot<Tree<S>>,
-    pub recorded: Slot<Noted<S>>,
-}
-
-impl<S: Store> Trees<S> {
-    pub fn new() -> Trees<S> {
-        Trees {
-            owned: Slot::new(),
-            locked: Slot::new(),
-            recorded: Slot::new(),
+    /// Writes a batch, and returns its sequence number.
+    pub fn write(&mut self, rt: &impl Wait, ops: Vec<(UserKey, Op)>) -> Result<SeqNo, Error> {
+        match self {
+            AnyTree::Owned(tree) => tree.write(ops),
+            AnyTree::Locked(tree) => tree.write(rt, ops),
+            AnyTree::Recorded(tree, pass) => tree.write(pass, ops),
+            AnyTree::Logged(tree) => tree.write(ops),
         }
     }
 
-    /// No two trees stand in memory.
-    pub fn clear(&mut self) {
-        self.owned.clear();
-        self.locked.clear();
-        self.recorded.clear();
+    /// The value of a key at a snapshot.
+    pub fn get(
+        &mut self,
+        rt: &impl Wait,
+        key: &[u8],
+        snapshot: SeqNo,
+    ) -> Result<Option<UserValue>, Error> {
+        match self {
+            AnyTree::Owned(tree) => tree.get(key, snapshot),
+            AnyTree::Locked(tree) => tree.get(rt, key, snapshot),
+            AnyTree::Recorded(tree, pass) => tree.get(pass, key, snapshot),
+            AnyTree::Logged(tree) => tree.tree().get(key, snapshot),
+        }
     }
-}
 
-/// A tree that was closed: its store, and where its counters were.
-#[derive(Drop)]
-pub struct Closed<S: Store> {
-    config: Config,
-    store: S,
-}
-
-/// Closes the tree, which lets go of all that it holds in memory.
-pub fn close<S: Store>(slot: &mut Slot<TreeState<S>>) -> Closed<S>
-    requires { IsSome slot.old.tree }
-{
-    let Some(tree) = slot.tree.take() else {
-        unreachable!()
-    };
-    Closed {
-        config: Config::new(tree.id(), tree.seqno().get(), tree.visible_seqno().get()),
-        store: tree.into_store(),
+    /// The snapshot that sees every write so far.
+    pub fn snapshot(&self, rt: &impl Wait) -> SeqNo {
+        match self {
+            AnyTree::Owned(tree) => tree.visible_seqno().get(),
+            AnyTree::Locked(tree) => tree.visible_number(rt),
+            AnyTree::Recorded(tree, _) => tree.visible_seqno().get(),
+            AnyTree::Logged(tree) => tree.tree().visible_seqno().get(),
+        }
     }
-}
 
-/// Opens a tree again from its store, with its counters where they were.
-pub fn reopen<S: Store>(alloc: Global, closed: Closed<S>) -> Result<TreeState<S>, Error> {
-    open_state(alloc, closed.config, closed.store)
+    /// Flushes the active memtable at a watermark, and returns the bytes that it counted.
+    pub fn flush(&mut self, rt: &impl Wait, watermark: SeqNo) -> Result<u64, Error> {
+        let flushed: Flushed = match self {
+            AnyTree::Owned(tree) => tree.flush_active_memtable(watermark),
+            AnyTree::Locked(tree) => tree.flush_active_memtable(rt, watermark),
+            AnyTree::Recorded(tree, pass) => tree.flush_active_memtable(pass, watermark),
+            AnyTree::Logged(tree) => tree.flush_active_memtable(watermark),
+        };
+        match flushed {
+            Ok((_, flush)) => Ok(flush.map_or(0, |(size, _)| size)),
+            Err((error, _)) => Err(error),
+        }
+    }
+
+    /// The tree below, to be read.
+    pub fn state(&self) -> Result<&TreeState<S>> {
+        match self {
+            AnyTree::Owned(tree) => Ok(tree),
+            AnyTree::Logged(tree) => Ok(tree.tree()),
+            AnyTree::Locked(_) | AnyTree::Recorded(..) => bail!("it lends no tree to be read"),
+        }
+    }
+
+    /// Closes the tree, which lets go of all that it holds in memory.
+    pub fn into_store(self) -> Result<S> {
+        match self {
+            AnyTree::Owned(tree) => Ok(tree.into_store()),
+            AnyTree::Logged(tree) => Ok(tree.into_store()),
+            AnyTree::Locked(_) | AnyTree::Recorded(..) => bail!("it gives no store back"),
+        }
+    }
 }

@@ -1,6 +1,6 @@
 use Rattle.std.proofs.Common.{refl, arith}
 use Rattle.std.proofs.lemmas.Iterator.{items_from_collect, YieldsList-from_range}
-use Rattle.lsm_bench_parts.proofs.orders.in_order.Goals as goal
+use Rattle.lsm_bench.proofs.orders.in_order.Goals as goal
 
 pub returns : goal.returns
 returns c =

@@ -1,5 +1,5 @@
 use Rattle.std.proofs.lemmas.List.Sorted.{IsPermutation-trans}
-use Rattle.lsm_bench_parts.proofs.orders.shuffle.Goals as goal
+use Rattle.lsm_bench.proofs.orders.shuffle.Goals as goal
 
 pub loop-place-preserved : goal.loop-place-preserved
 loop-place-preserved c =

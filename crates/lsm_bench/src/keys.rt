@@ -1,8 +1,8 @@
 // The keys and values that workloads write and read, by their id.
 ghost use Rattle.std.specs.Prelude.{◌≡◌, IfOk};
-ghost use Rattle.lsm_bench_parts.specs.Keys.{group_bytes, key_bytes, absent_bytes, value_bytes};
+ghost use Rattle.lsm_bench.specs.Keys.{group_bytes, key_bytes, absent_bytes, value_bytes};
 
-use lsm_below::{UserKey, UserValue};
+use lsm_tree::{UserKey, UserValue};
 use std::alloc::{AllocError, Global};
 
 /// How many ids share the first half of their keys.
@@ -15,10 +15,8 @@ const KEY_LEN: usize = 16;
 
 const VALUE_LEN: usize = 100;
 
-/// The bytes of so many keys and their values.
-pub fn put_len(keys: usize) -> u64 {
-    (keys as u64).saturating_mul((KEY_LEN + VALUE_LEN) as u64)
-}
+/// The bytes of a key and its value.
+pub const PAIR_LEN: u64 = 116;
 
 /// A byte that begins a key of no id.
 const ABSENT: u8 = 1;

@@ -3,6 +3,7 @@ ghost use Rattle.std.specs.Prelude.{◌≡◌, IfOk};
 ghost use Rattle.std.specs.List.{range_with_len};
 ghost use Rattle.std.specs.List.Sorted.{IsPermutation};
 
+use crate::workloads::Order;
 use rand_core::{Rng, SeedableRng};
 use rand_xoshiro::SplitMix64;
 use std::alloc::{AllocError, Global};
@@ -13,22 +14,34 @@ const PUT_SEED: u64 = 1;
 /// The seed of the order of reads.
 const READ_SEED: u64 = 2;
 
-/// The orders of a run, each of all keys.
+/// The orders of a run, each of as many ids as there are keys.
 #[derive(Drop)]
 pub struct Orders {
-    pub rising: Vec<u64>,
-    pub puts: Vec<u64>,
-    pub reads: Vec<u64>,
+    rising: Vec<u64>,
+    puts: Vec<u64>,
+    reads: Vec<u64>,
+    same: Vec<u64>,
 }
 
 impl Orders {
-    /// The orders of so many keys.
     pub fn new(alloc: Global, count: usize) -> Result<Orders, AllocError> {
         Ok(Orders {
             rising: in_order(alloc, count)?,
             puts: shuffled(alloc, count, PUT_SEED)?,
             reads: shuffled(alloc, count, READ_SEED)?,
+            same: vec![in alloc; 0; count]?,
         })
+    }
+
+    /// The first ids of an order, so many at most.
+    pub fn first(&self, order: Order, most: usize) -> &[u64] {
+        let ids = match order {
+            Order::Rising => &self.rising,
+            Order::Puts => &self.puts,
+            Order::Reads => &self.reads,
+            Order::Same => &self.same,
+        };
+        &ids[..ids.len().min(most)]
     }
 }
 
