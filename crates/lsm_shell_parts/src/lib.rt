@@ -5,7 +5,7 @@
 //! |-|-|
 //! | `word` | words and numbers |
 //! | `bounds` | the bounds and prefixes that words give |
-//! | `command` | what a line asks |
+//! | `command`, `verb` | what a line asks, and the words that lines begin with |
 //! | `reply` | what is printed for a line |
 //! | `cause` | why a store failed, or which file is damaged |
 //! | `tree` | the tree of a session, with its call history or with a log above it |
@@ -24,15 +24,16 @@ mod cause;
 mod command;
 mod console;
 mod drawing;
-mod tree;
 mod reply;
 mod session;
 mod shell;
 mod threads;
+mod tree;
+mod verb;
 mod watched;
 mod word;
 
 pub use console::Console;
 pub use lsm_dump_parts::list_arguments;
-pub use watched::Watch;
 pub use shell::run_shell;
+pub use watched::Watch;

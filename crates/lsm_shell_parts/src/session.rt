@@ -65,9 +65,7 @@ impl<S: SessionStore> Session<S> {
         if cause.is_some() || self.failures() <= failures {
             return (reply, cause);
         }
-        let fault = self
-            .store()
-            .and_then(|store| fault_of(self.alloc, store));
+        let fault = self.store().and_then(|store| fault_of(self.alloc, store));
         (reply, fault)
     }
 

@@ -35,10 +35,11 @@ pub fn call_all<R: Threads + Wait + Sync>(
             None => return Ok(None),
         }
     }
-    Ok(tree
-        .close(rt, passes)
-        .ok()
-        .map(|closed| closed.journal.len()))
+    Ok(
+        tree.close(rt, passes)
+            .ok()
+            .map(|closed| closed.journal.len()),
+    )
 }
 
 /// What one caller's calls put into the journal, None where it read something else than it wrote.

@@ -13,6 +13,7 @@ const OUT_OF_ORDER: &str = "tables: open: entries of a key are out of order";
 
 /// The same of a log that is only looked at, and of one that is read.
 const NOT_A_RECORD: &str = "log: open: a name is none of a record";
+
 const BAD_LOG: &str = "log: open: a record is damaged, or a name is none of a record";
 
 /// What a session asks of its tree. Each method does what that of the same name of the tree does.
