@@ -5,8 +5,9 @@ use crate::drawing::draw_levels;
 use crate::reply::Reply;
 use crate::tree::SessionTree;
 use lsm_below::{SeqNo, UserKey};
-use lsm_tree::{Begun, Error, Fifo, Leveled, Major, Op, OwnedBounds, TreeState};
+use lsm_tree::{Begun, Error, Fifo, Leveled, Major, Op, OwnedBounds, TreeState, prefix_to_range};
 use std::alloc::{AllocError, Global};
+use std::ops::Bound;
 
 /// A tree that answers lines.
 #[derive(Drop)]
@@ -137,13 +138,9 @@ fn run_on<S: SessionStore>(
         Command::Del(key) => write(alloc, tree, key, Op::Del),
         Command::Weak(key) => write(alloc, tree, key, Op::Weak),
         Command::Get(key, snapshot) => get(tree, &key, snapshot),
-        Command::Range(low, high, snapshot) => {
-            let snapshot = snapshot_or_now(tree, snapshot);
-            Ok(Reply::Pairs(tree.range(&(low, high), snapshot)?))
-        }
+        Command::Range(low, high, snapshot) => range(tree, &(low, high), snapshot),
         Command::Prefix(key, snapshot) => {
-            let snapshot = snapshot_or_now(tree, snapshot);
-            Ok(Reply::Pairs(tree.prefix(&key, snapshot)?))
+            range(tree, &prefix_to_range(alloc, key.as_slice())?, snapshot)
         }
         Command::Rotate => rotate(tree),
         Command::Flush(watermark) => flush(tree, watermark),
@@ -182,6 +179,15 @@ fn get<S: SessionStore>(
         Some(value) => Reply::Value(value),
         None => Reply::Word("none"),
     })
+}
+
+fn range<S: SessionStore>(
+    tree: &SessionTree<S>,
+    bounds: &(Bound<UserKey>, Bound<UserKey>),
+    snapshot: Option<SeqNo>,
+) -> Result<Reply, Error> {
+    let snapshot = snapshot_or_now(tree, snapshot);
+    Ok(Reply::Pairs(tree.range(bounds, snapshot)?))
 }
 
 fn rotate<S: SessionStore>(tree: &mut SessionTree<S>) -> Result<Reply, Error> {

@@ -91,15 +91,6 @@ impl<S: SessionStore> SessionTree<S> {
         }
     }
 
-    pub fn prefix(&self, prefix: &UserKey, snapshot: SeqNo) -> Result<TreeIter, Error> {
-        match self {
-            SessionTree::Plain(_, tree) => tree.create_prefix(prefix, snapshot),
-            SessionTree::Logged(tree) => {
-                tree.tree().create_prefix(prefix.as_slice(), snapshot, None)
-            }
-        }
-    }
-
     pub fn rotate_memtable(&mut self) -> Result<Option<MemtableId>, Error> {
         match self {
             SessionTree::Plain(alloc, tree) => tree.rotate_memtable(&mut Pass::new(*alloc)),

@@ -77,16 +77,6 @@ impl<S: SessionStore, C: Clock + Drop, E: Write + Drop> WatchedStore<S, C, E> {
         }
     }
 
-    /// Counts the table that is written, where this is the name of one.
-    fn count_written(&mut self, name: &str, bytes: &[u8]) {
-        if name.starts_with(TABLES) {
-            if !self.is_at(false) {
-                self.begin(None);
-            }
-            self.count(bytes.len());
-        }
-    }
-
     /// Counts a table, and says how far the work is once a beat has passed.
     fn count(&mut self, bytes: usize) {
         let (Some(watch), Some(task)) = (&mut self.watch, &mut self.task) else {
@@ -148,14 +138,17 @@ impl<S: SessionStore, C: Clock + Drop, E: Write + Drop> Store for WatchedStore<S
 
     fn write(&mut self, name: &str, bytes: &[u8]) -> Result<(), StoreError> {
         self.inner.write(name, bytes)?;
-        self.count_written(name, bytes);
+        if name.starts_with(TABLES) {
+            if !self.is_at(false) {
+                self.begin(None);
+            }
+            self.count(bytes.len());
+        }
         Ok(())
     }
 
     fn write_shared(&mut self, name: &str, bytes: &Bytes) -> Result<(), StoreError> {
-        self.inner.write_shared(name, bytes)?;
-        self.count_written(name, bytes.as_slice());
-        Ok(())
+        self.write(name, bytes.as_slice())
     }
 
     fn sync(&mut self, name: &str) -> Result<(), StoreError> {
