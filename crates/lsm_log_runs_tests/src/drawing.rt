@@ -17,7 +17,7 @@ const HIGH: SeqNo = 1 << 20;
 /// The fewest steps, and how many more there may be.
 const FEWEST: u64 = 5;
 
-const MORE: u64 = 48;
+const MORE: u64 = 24;
 
 /// How many calls of the store an opening makes, or some more.
 const OPENING: u64 = 8;

@@ -14,7 +14,7 @@ use std::alloc::{AllocError, Global};
 use std::ops::Bound;
 use std::test::Fail;
 
-const SCRIPTS: u64 = 2_000;
+const SCRIPTS: u64 = 150;
 
 /// The seeds of the scripts begin here.
 const SEED: u64 = 20_000;

@@ -70,13 +70,13 @@ impl Tally {
         }
     }
 
-    /// Whether all of it happened often: in 2,000 scripts each happens about twice as often as is asked here, or more.
+    /// Whether all of it happened often: in 150 scripts each happens about twice as often as is asked here, or more.
     pub fn is_plenty(&self) -> bool {
-        let calls = self.batches > 10_000 && self.flushed > 1_200 && self.cleared > 300;
-        let jobs = self.registered > 200 && self.merged > 150 && self.missed > 2_000;
-        let lives = self.refused > 100 && self.second > 300 && self.picks > 50_000;
-        let ends = self.shut > 300 && self.lost > 200 && self.kept > 15;
-        calls && self.compacted > 1_000 && jobs && lives && ends
+        let calls = self.batches > 450 && self.flushed > 45 && self.cleared > 12;
+        let jobs = self.registered > 5 && self.merged > 5 && self.missed > 130;
+        let lives = self.refused > 18 && self.second > 20 && self.picks > 3_400;
+        let ends = self.shut > 18 && self.lost > 12 && self.kept > 2;
+        calls && self.compacted > 45 && jobs && lives && ends
     }
 
     fn add_flush(&mut self, told: Registered) {

@@ -1,4 +1,3 @@
 pub mod BoundWords
 pub mod Parts
-pub mod Commands
 pub mod Spelling

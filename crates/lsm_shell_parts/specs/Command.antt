@@ -1,103 +1,64 @@
 -- What a line asks.
-use Rattle.std.specs.Prelude.{ℕ, List, [], ◌∷◌, Option, Some, None, codes, bytes_eq, option_map, option_and_then, if◌then◌else◌}
+use Rattle.std.specs.Prelude.{ℕ, List, [], ◌∷◌, Option, Some, None, option_map, option_and_then}
 use Rattle.lsm_shell_parts.specs.Bounds.{included_of, excluded_of, prefix_of}
 use Rattle.lsm_below.specs.Numbers.{plain_number}
+use Rattle.lsm_shell_parts.specs.Verbs.{verb_of}
 use Rattle.lsm_shell_parts.specs.Word.{words_of}
 use Rattle.lsm_shell_parts.specs.declared.command.Command.{Command}
 use Rattle.lsm_shell_parts.specs.declared.command.Command.TheVariants.{Put, Del, Weak, Get, Range, Prefix, Rotate, Flush, Compact, DropRange, Clear, Now, Stats, Levels, Crash, Reopen}
-use Rattle.lsm_shell_parts.specs.declared.command.Plan.{Plan}
 use Rattle.lsm_shell_parts.specs.declared.command.Plan.TheVariants.{Leveled, Major, Fifo}
+use Rattle.lsm_shell_parts.specs.declared.verb.Verb.{Verb}
+use Rattle.lsm_shell_parts.specs.declared.verb.Verb.TheVariants as verb
 
--- what a word alone asks, but for a rotation, an opening and a drawing
-abbrev pub command_of_other : List ℕ → Option Command
-command_of_other verb =
-    if bytes_eq verb (codes "stats") then Some Stats
-    else if bytes_eq verb (codes "crash") then Some Crash
-    else if bytes_eq verb (codes "clear") then Some Clear
-    else None
+-- the snapshot that words name: none, or a number
+abbrev pub snapshot_of : List (List ℕ) → Option (Option ℕ)
+snapshot_of [] = Some None
+snapshot_of (word ∷ []) = option_map (λ n. Some n) (plain_number word)
+snapshot_of (word ∷ more ∷ others) = None
 
--- what a line of one word asks
-abbrev pub command_of_one : List ℕ → Option Command
-command_of_one verb =
-    if bytes_eq verb (codes "rotate") then Some Rotate
-    else if bytes_eq verb (codes "reopen") then Some Reopen
-    else if bytes_eq verb (codes "levels") then Some Levels
-    else command_of_other verb
+-- what a plan and numbers after it ask
+abbrev pub compaction_of : Verb → List (List ℕ) → Option Command
+compaction_of verb.Leveled (last ∷ []) = option_map (λ n. Compact Leveled n) (plain_number last)
+compaction_of verb.Major (last ∷ []) = option_map (λ n. Compact Major n) (plain_number last)
+compaction_of verb.Fifo (limit ∷ ttl ∷ last ∷ []) = option_and_then (λ l. option_and_then (λ t. option_map (λ n. Compact (Fifo l t) n) (plain_number last)) (plain_number ttl)) (plain_number limit)
+compaction_of other words = None
 
--- what a word asks of a key
-abbrev pub command_of_key : List ℕ → List ℕ → Option Command
-command_of_key verb key =
-    if bytes_eq verb (codes "del") then Some (Del key)
-    else if bytes_eq verb (codes "weak") then Some (Weak key)
-    else if bytes_eq verb (codes "get") then Some (Get key None)
-    else None
+-- what a word that reads asks with the words after it
+abbrev pub read_with : Verb → List (List ℕ) → Option Command
+read_with verb.Get (key ∷ at) = option_map (λ s. Get key s) (snapshot_of at)
+read_with verb.Range (low ∷ high ∷ at) = option_map (λ s. Range (included_of low) (excluded_of high) s) (snapshot_of at)
+read_with verb.Prefix (prefix ∷ at) = option_map (λ s. Prefix (prefix_of prefix) s) (snapshot_of at)
+read_with other words = None
 
--- what a word asks of a key or a number
-abbrev pub command_of_word : List ℕ → List ℕ → Option Command
-command_of_word verb word =
-    if bytes_eq verb (codes "flush") then option_map (λ n. Flush n) (plain_number word)
-    else if bytes_eq verb (codes "now") then option_map (λ n. Now n) (plain_number word)
-    else command_of_key verb word
+-- what a word that names no key asks
+abbrev pub plain_with : Verb → List (List ℕ) → Option Command
+plain_with verb.Rotate [] = Some Rotate
+plain_with verb.Flush (watermark ∷ []) = option_map (λ n. Flush n) (plain_number watermark)
+plain_with verb.Compact (plan ∷ numbers) = option_and_then (λ p. compaction_of p numbers) (verb_of plan)
+plain_with verb.Clear [] = Some Clear
+plain_with verb.Now (moment ∷ []) = option_map (λ n. Now n) (plain_number moment)
+plain_with verb.Stats [] = Some Stats
+plain_with verb.Levels [] = Some Levels
+plain_with verb.Crash [] = Some Crash
+plain_with verb.Reopen [] = Some Reopen
+plain_with other words = None
 
--- what a line of two words asks
-abbrev pub command_of_two : List ℕ → List ℕ → Option Command
-command_of_two verb word =
-    if bytes_eq verb (codes "prefix") then Some (Prefix (prefix_of word) None)
-    else command_of_word verb word
-
--- what a word asks of a key and another word
-abbrev pub command_of_pair : List ℕ → List ℕ → List ℕ → Option Command
-command_of_pair verb key last =
-    if bytes_eq verb (codes "put") then Some (Put key last)
-    else if bytes_eq verb (codes "get") then option_map (λ n. Get key (Some n)) (plain_number last)
-    else if bytes_eq verb (codes "range") then Some (Range (included_of key) (excluded_of last) None)
-    else if bytes_eq verb (codes "drop") then Some (DropRange (included_of key) (included_of last))
-    else None
-
--- the plan of no number that a word names
-abbrev pub plan_of : List ℕ → Option Plan
-plan_of word =
-    if bytes_eq word (codes "leveled") then Some Leveled
-    else if bytes_eq word (codes "major") then Some Major
-    else None
-
--- what a plan and a watermark ask
-abbrev pub command_of_plan : List ℕ → List ℕ → Option Command
-command_of_plan plan watermark = option_and_then (λ p. option_map (λ n. Compact p n) (plain_number watermark)) (plan_of plan)
-
--- what a line of three words asks
-abbrev pub command_of_three : List ℕ → List ℕ → List ℕ → Option Command
-command_of_three verb key last =
-    if bytes_eq verb (codes "prefix") then option_map (λ n. Prefix (prefix_of key) (Some n)) (plain_number last)
-    else if bytes_eq verb (codes "compact") then command_of_plan key last
-    else command_of_pair verb key last
-
--- what a line of four words asks
-abbrev pub command_of_four : List ℕ → List ℕ → List ℕ → List ℕ → Option Command
-command_of_four verb low high last =
-    if bytes_eq verb (codes "range") then option_map (λ n. Range (included_of low) (excluded_of high) (Some n)) (plain_number last)
-    else None
-
--- what a limit, a time to live and a watermark ask
-abbrev pub command_of_fifo : List ℕ → List ℕ → List ℕ → Option Command
-command_of_fifo limit ttl watermark = option_and_then (λ l. option_and_then (λ t. option_map (λ n. Compact (Fifo l t) n) (plain_number watermark)) (plain_number ttl)) (plain_number limit)
-
--- what a line of five words asks
-abbrev pub command_of_five : List ℕ → List ℕ → List ℕ → List ℕ → List ℕ → Option Command
-command_of_five verb plan limit ttl watermark =
-    if bytes_eq verb (codes "compact") then (if bytes_eq plan (codes "fifo") then command_of_fifo limit ttl watermark else None)
-    else None
+-- what a word asks with the words after it
+abbrev pub command_with : Verb → List (List ℕ) → Option Command
+command_with verb.Put (key ∷ value ∷ []) = Some (Put key value)
+command_with verb.Del (key ∷ []) = Some (Del key)
+command_with verb.Weak (key ∷ []) = Some (Weak key)
+command_with verb.Drop (low ∷ high ∷ []) = Some (DropRange (included_of low) (included_of high))
+command_with verb.Get words = read_with verb.Get words
+command_with verb.Range words = read_with verb.Range words
+command_with verb.Prefix words = read_with verb.Prefix words
+command_with verb words = plain_with verb words
 
 -- what these words ask
-unfoldable pub command_of_words : List (List ℕ) → Option Command
+abbrev pub command_of_words : List (List ℕ) → Option Command
 command_of_words [] = None
-command_of_words (verb ∷ []) = command_of_one verb
-command_of_words (verb ∷ key ∷ []) = command_of_two verb key
-command_of_words (verb ∷ key ∷ last ∷ []) = command_of_three verb key last
-command_of_words (verb ∷ low ∷ high ∷ last ∷ []) = command_of_four verb low high last
-command_of_words (verb ∷ plan ∷ limit ∷ ttl ∷ last ∷ []) = command_of_five verb plan limit ttl last
-command_of_words (verb ∷ plan ∷ limit ∷ ttl ∷ last ∷ more ∷ others) = None
+command_of_words (first ∷ words) = option_and_then (λ v. command_with v words) (verb_of first)
 
 -- what a line asks
-unfoldable pub command_of : List ℕ → Option Command
+abbrev pub command_of : List ℕ → Option Command
 command_of line = option_and_then command_of_words (words_of line)

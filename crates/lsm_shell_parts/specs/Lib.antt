@@ -3,4 +3,4 @@ pub mod Bounds
 pub mod Command
 pub mod Spelling
 pub mod Word
-pub mod FewWords
+pub mod Verbs

@@ -33,27 +33,14 @@ spelling_of Reopen = codes "reopen" ∷ []
 
 -- each number that is named is below 2^64
 abbrev pub HasFitNumber : Command → Type 0
-HasFitNumber (Put key value) = Unit {0}
-HasFitNumber (Del key) = Unit {0}
-HasFitNumber (Weak key) = Unit {0}
-HasFitNumber (Get key None) = Unit {0}
 HasFitNumber (Get key (Some snapshot)) = snapshot < 2 ^ 64
-HasFitNumber (Range low high None) = Unit {0}
 HasFitNumber (Range low high (Some snapshot)) = snapshot < 2 ^ 64
-HasFitNumber (Prefix prefix None) = Unit {0}
 HasFitNumber (Prefix prefix (Some snapshot)) = snapshot < 2 ^ 64
-HasFitNumber Rotate = Unit {0}
 HasFitNumber (Flush watermark) = watermark < 2 ^ 64
-HasFitNumber (Compact Leveled watermark) = watermark < 2 ^ 64
-HasFitNumber (Compact Major watermark) = watermark < 2 ^ 64
 HasFitNumber (Compact (Fifo limit ttl) watermark) = (limit < 2 ^ 64) × (ttl < 2 ^ 64) × (watermark < 2 ^ 64)
-HasFitNumber (DropRange low high) = Unit {0}
-HasFitNumber Clear = Unit {0}
+HasFitNumber (Compact plan watermark) = watermark < 2 ^ 64
 HasFitNumber (Now moment) = moment < 2 ^ 64
-HasFitNumber Stats = Unit {0}
-HasFitNumber Levels = Unit {0}
-HasFitNumber Crash = Unit {0}
-HasFitNumber Reopen = Unit {0}
+HasFitNumber other = Unit {0}
 
 -- the line has the command's words, with one space between each and the next
 pub record Spells (line : List ℕ) (command : Command) : Type 0 where

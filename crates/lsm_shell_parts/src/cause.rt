@@ -1,5 +1,6 @@
 // Why a store failed, or which file is damaged, as it is told beside an answer.
-use lsm_tree::{Error, FolderFault, FolderStore, MemStore, Store, damaged_file};
+use lsm_dump_parts::look_into;
+use lsm_tree::{Error, FolderFault, FolderStore, MemStore, Store};
 use std::alloc::{AllocError, Global};
 use std::fs::{File, Files};
 
@@ -7,27 +8,23 @@ use std::fs::{File, Files};
 pub trait SessionStore: Store {
     /// What a crash at this moment leaves, where all that isn't synced and all that was removed is absent. None of a store
     /// that can't be crashed.
-    fn crashed(&self) -> Result<Option<Self>, AllocError>;
+    fn crashed(&self) -> Result<Option<Self>, AllocError> {
+        Ok(None)
+    }
 
     /// Why the last call failed that did, where the store tells it.
-    fn last_fault(&self) -> Option<&FolderFault>;
+    fn last_fault(&self) -> Option<&FolderFault> {
+        None
+    }
 }
 
 impl SessionStore for MemStore {
     fn crashed(&self) -> Result<Option<MemStore>, AllocError> {
         self.crash(&[])
     }
-
-    fn last_fault(&self) -> Option<&FolderFault> {
-        None
-    }
 }
 
 impl<P: Files<File = File> + Alloc + Clone + Drop> SessionStore for FolderStore<P> {
-    fn crashed(&self) -> Result<Option<FolderStore<P>>, AllocError> {
-        Ok(None)
-    }
-
     fn last_fault(&self) -> Option<&FolderFault> {
         FolderStore::last_fault(self)
     }
@@ -36,12 +33,30 @@ impl<P: Files<File = File> + Alloc + Clone + Drop> SessionStore for FolderStore<
 /// What is told of a folder that has a write log.
 const HAS_LOG: &str = "log: open: the folder has a write log and is to be opened with `logged`";
 
-/// Why nothing was opened: the error, what it fell on, where that is known, and whether a log is the reason.
+/// Why nothing was opened: the error, what it fell on, where that is known, and what can be done.
 #[derive(Drop)]
 pub struct Refusal {
     pub error: Error,
     pub cause: Option<String>,
-    pub has_log: bool,
+    pub remedy: &'static str,
+}
+
+impl Refusal {
+    pub(crate) fn new(error: Error, cause: Option<String>) -> Refusal {
+        let remedy = match error {
+            Error::OutOfMemory => "all tables are held in memory, and there isn't enough of it",
+            Error::Store | Error::CommitUnknown => {
+                "see that the folder may be written, that its disk has room, and that no other session has it open"
+            }
+            Error::OutOfNumbers => "the sequence numbers of this folder are used up",
+            _ => "nothing was changed: put the file back from a copy, or begin in another folder",
+        };
+        Refusal {
+            error,
+            cause,
+            remedy,
+        }
+    }
 }
 
 /// A tree that wasn't opened: why, and its store.
@@ -55,22 +70,25 @@ impl<S: SessionStore> Unopened<S> {
     /// A refused opening. The words are told where no file of the tree is damaged, and yet it is `Unrecoverable`.
     pub(crate) fn new(alloc: Global, error: Error, store: S, otherwise: &str) -> Unopened<S> {
         let mut store = store;
-        let cause = cause_of(alloc, &mut store, &error, otherwise);
-        let refusal = Refusal {
-            error,
-            cause,
-            has_log: false,
+        let cause = match error {
+            Error::Store | Error::CommitUnknown => fault_of(alloc, &store),
+            Error::Unrecoverable
+            | Error::InvalidVersion(_)
+            | Error::InvalidTag(_, _)
+            | Error::InvalidHeader(_)
+            | Error::ChecksumMismatch => damage_of(alloc, &mut store, &error, otherwise),
+            _ => None,
         };
+        let refusal = Refusal::new(error, cause);
         Unopened { refusal, store }
     }
 
     /// A store that is left alone, since records count in it, which only a tree with a log reads.
     pub(crate) fn for_log(alloc: Global, store: S) -> Unopened<S> {
-        let cause = String::from_str(alloc, HAS_LOG).ok();
         let refusal = Refusal {
             error: Error::Unrecoverable,
-            cause,
-            has_log: true,
+            cause: String::from_str(alloc, HAS_LOG).ok(),
+            remedy: "nothing was changed: give `logged` before the folder",
         };
         Unopened { refusal, store }
     }
@@ -82,34 +100,18 @@ pub(crate) fn fault_of<S: SessionStore>(alloc: Global, store: &S) -> Option<Stri
     format!(in alloc; "{fault}").ok()
 }
 
-/// The damaged file that keeps a tree from being opened, in words; or these words, where no file is.
+/// The first file of the tree itself that is damaged, in words; or these words, where none is.
 fn damage_of<S: Store>(
     alloc: Global,
     store: &mut S,
     error: &Error,
     otherwise: &str,
 ) -> Option<String> {
-    match damaged_file(alloc, store) {
-        Ok(Some(name)) => format!(in alloc; "{name}: open: {error}").ok(),
-        Ok(None) => String::from_str(alloc, otherwise).ok(),
-        Err(_) => None,
+    let look = look_into(alloc, store).ok()?;
+    for damage in &look.damage {
+        if !damage.name.starts_with("log/") {
+            return format!(in alloc; "{}: open: {error}", damage.name).ok();
+        }
     }
-}
-
-/// Why a tree over this store wasn't opened, in words.
-fn cause_of<S: SessionStore>(
-    alloc: Global,
-    store: &mut S,
-    error: &Error,
-    otherwise: &str,
-) -> Option<String> {
-    match error {
-        Error::Store | Error::CommitUnknown => fault_of(alloc, store),
-        Error::Unrecoverable
-        | Error::InvalidVersion(_)
-        | Error::InvalidTag(_, _)
-        | Error::InvalidHeader(_)
-        | Error::ChecksumMismatch => damage_of(alloc, store, error, otherwise),
-        _ => None,
-    }
+    String::from_str(alloc, otherwise).ok()
 }

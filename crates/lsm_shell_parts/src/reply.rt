@@ -1,52 +1,25 @@
 // What is printed for a line.
-use lsm_below::{MemtableId, SeqNo, UserValue};
+use lsm_below::UserValue;
 use lsm_tree::{Error, IterGuard, TreeIter, Why};
 use std::io::{self, Write};
-
-/// What a tree counts: the tables and the runs of its first level, its sealed memtables, the entries of memtables and
-/// tables, and the bytes of its tables.
-#[derive(Clone, Copy)]
-pub struct Stats {
-    pub tables: usize,
-    pub runs: usize,
-    pub sealed: usize,
-    pub len: usize,
-    pub bytes: u64,
-}
 
 /// What a line is answered.
 #[derive(Drop)]
 pub enum Reply {
-    /// The write has this number.
-    Written(SeqNo),
+    /// This word.
+    Word(&'static str),
+    /// This word, and a number.
+    Number(&'static str, u64),
     /// The key has this value.
     Value(UserValue),
-    /// The key has no value.
-    NoValue,
     /// What the iterator has left are the pairs that there are.
     Pairs(TreeIter),
-    /// The memtable of this number was sealed.
-    Rotated(MemtableId),
-    /// There was nothing to do.
-    Nothing,
-    /// Memtables of so many bytes were flushed, and the flush was installed or found stale.
-    Flushed(u64, bool),
-    /// The compaction was installed.
-    Compacted,
+    /// Memtables of so many bytes were flushed, and what became of the flush.
+    Flushed(u64, &'static str),
     /// The compaction was declined, for this reason.
     Declined(Why),
-    /// The tree was cleared, under this number.
-    Cleared(SeqNo),
-    /// It is done.
-    Done,
-    /// What the tree counts.
-    Counted(Stats),
-    /// The levels as they are drawn, a line each run.
-    Drawn(String),
-    /// The store was crashed.
-    Crashed,
-    /// The tree was opened, with so many tables.
-    Opened(usize),
+    /// These lines.
+    Lines(String),
     /// The tree, or the shell for want of memory, refused.
     Refused(Error),
     /// The line asks nothing that the shell knows.
@@ -58,26 +31,13 @@ impl Reply {
     /// memory ends with that error.
     pub fn write_to<W: Write>(self, output: &mut W) -> io::Result<()> {
         match self {
-            Reply::Written(number) => writeln!(output, "ok {number}"),
-            Reply::Value(value) => {
-                output.write_all(b"value ")?;
-                output.write_all(value.as_slice())?;
-                output.write_all(b"\n")
-            }
-            Reply::NoValue => output.write_all(b"none\n"),
+            Reply::Word(word) => writeln!(output, "{word}"),
+            Reply::Number(word, number) => writeln!(output, "{word} {number}"),
+            Reply::Value(value) => write_pair(output, b"value", value.as_slice()),
             Reply::Pairs(pairs) => write_pairs(output, pairs),
-            Reply::Rotated(id) => writeln!(output, "rotated {id}"),
-            Reply::Nothing => output.write_all(b"nothing\n"),
-            Reply::Flushed(size, true) => writeln!(output, "flushed {size} installed"),
-            Reply::Flushed(size, false) => writeln!(output, "flushed {size} stale"),
-            Reply::Compacted => output.write_all(b"installed\n"),
+            Reply::Flushed(size, fate) => writeln!(output, "flushed {size} {fate}"),
             Reply::Declined(why) => writeln!(output, "declined {why:?}"),
-            Reply::Cleared(number) => writeln!(output, "cleared {number}"),
-            Reply::Done => output.write_all(b"ok\n"),
-            Reply::Counted(stats) => write_stats(output, stats),
-            Reply::Drawn(lines) => output.write_all(lines.as_bytes()),
-            Reply::Crashed => output.write_all(b"crashed\n"),
-            Reply::Opened(tables) => writeln!(output, "opened {tables}"),
+            Reply::Lines(lines) => output.write_all(lines.as_bytes()),
             Reply::Refused(error) => write_refused(output, error),
             Reply::Usage => output.write_all(b"error 0 Usage\n"),
         }
@@ -86,24 +46,7 @@ impl Reply {
 
 /// Writes the line of a refusal.
 fn write_refused<W: Write>(output: &mut W, error: Error) -> io::Result<()> {
-    let number = error.number();
-    let name = error.name();
-    writeln!(output, "error {number} {name}")
-}
-
-/// Writes the line of what is counted.
-fn write_stats<W: Write>(output: &mut W, stats: Stats) -> io::Result<()> {
-    let Stats {
-        tables,
-        runs,
-        sealed,
-        len,
-        bytes,
-    } = stats;
-    writeln!(
-        output,
-        "tables {tables} runs {runs} sealed {sealed} len {len} bytes {bytes}"
-    )
+    writeln!(output, "error {} {}", error.number(), error.name())
 }
 
 /// Writes the line of a pair.

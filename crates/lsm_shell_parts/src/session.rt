@@ -2,40 +2,54 @@
 use crate::cause::{Refusal, SessionStore, Unopened, fault_of};
 use crate::command::{Command, Plan, parse};
 use crate::drawing::draw_levels;
-use crate::kinds::SessionTree;
-use crate::reply::{Reply, Stats};
+use crate::reply::Reply;
+use crate::tree::SessionTree;
 use lsm_below::{SeqNo, UserKey};
-use lsm_tree::{Begun, Error, Fifo, Leveled, Op, OwnedBounds};
-use std::alloc::Global;
+use lsm_tree::{Begun, Error, Fifo, Leveled, Major, Op, OwnedBounds, TreeState, prefix_to_range};
+use std::alloc::{AllocError, Global};
 use std::ops::Bound;
-
-/// What a session has: a tree, or after a crash or a refused opening its store alone.
-#[derive(Drop)]
-enum Stage<S, T> {
-    Open(T),
-    Closed(S),
-}
 
 /// A tree that answers lines.
 #[derive(Drop)]
-pub struct Session<S, T> {
+pub struct Session<S: SessionStore> {
     alloc: Global,
-    /// None only while the tree is opened again.
-    stage: Option<Stage<S, T>>,
-    /// Why the last opening was refused, until it is told.
-    cause: Option<String>,
+    is_logged: bool,
+    /// None before the first opening, after a crash, and where an opening was refused.
+    tree: Option<SessionTree<S>>,
+    /// The store alone, where there is no tree.
+    store: Option<S>,
 }
 
-impl<S: SessionStore, T: SessionTree<S>> Session<S, T> {
-    /// A session over the tree that a store holds, or a new one.
-    pub fn open(alloc: Global, store: S) -> Result<Session<S, T>, Refusal> {
-        match T::open(alloc, store) {
-            Ok(tree) => Ok(Session {
-                alloc,
-                stage: Some(Stage::Open(tree)),
-                cause: None,
-            }),
-            Err(unopened) => Err(unopened.refusal),
+impl<S: SessionStore> Session<S> {
+    /// A session over a store, which is to be opened.
+    pub fn new(alloc: Global, store: S, is_logged: bool) -> Session<S> {
+        Session {
+            alloc,
+            is_logged,
+            tree: None,
+            store: Some(store),
+        }
+    }
+
+    /// Opens the tree, also again, from its store: how many tables it has. Refused, the store is kept.
+    pub fn open(&mut self) -> Result<usize, Refusal> {
+        let store = match self.tree.take() {
+            Some(tree) => Some(tree.into_store()),
+            None => self.store.take(),
+        };
+        let Some(store) = store else {
+            return Err(Refusal::new(Error::Store, None));
+        };
+        match SessionTree::open(self.alloc, store, self.is_logged) {
+            Ok(tree) => {
+                let tables = tree.tree().table_count();
+                self.tree = Some(tree);
+                Ok(tables)
+            }
+            Err(Unopened { refusal, store }) => {
+                self.store = Some(store);
+                Err(refusal)
+            }
         }
     }
 
@@ -43,40 +57,35 @@ impl<S: SessionStore, T: SessionTree<S>> Session<S, T> {
     /// be opened again, the second says why.
     pub fn answer(&mut self, line: &[u8]) -> (Reply, Option<String>) {
         let failures = self.failures();
-        let reply = match parse(self.alloc, line) {
-            Ok(Some(command)) => self.run(command).unwrap_or_else(Reply::Refused),
-            Ok(None) => Reply::Usage,
-            Err(_) => Reply::Refused(Error::OutOfMemory),
+        let (reply, cause) = match parse(self.alloc, line) {
+            Ok(Some(Command::Reopen)) => self.reopen(),
+            Ok(Some(command)) => (self.run(command).unwrap_or_else(Reply::Refused), None),
+            Ok(None) => (Reply::Usage, None),
+            Err(_) => (Reply::Refused(Error::OutOfMemory), None),
         };
-        let cause = match self.cause.take() {
-            Some(cause) => Some(cause),
-            None if self.failures() > failures => {
-                self.store().and_then(|store| fault_of(self.alloc, store))
-            }
-            None => None,
-        };
-        (reply, cause)
+        if cause.is_some() || self.failures() <= failures {
+            return (reply, cause);
+        }
+        let fault = self.store().and_then(|store| fault_of(self.alloc, store));
+        (reply, fault)
     }
 
     /// What a line is to work on that takes long where there are many entries: a flush or a compaction.
-    pub fn foresee(&self, line: &[u8]) -> Option<(&'static str, Stats)> {
-        let Some(Stage::Open(tree)) = &self.stage else {
-            return None;
-        };
+    pub fn foresee(&self, line: &[u8]) -> Option<(&'static str, &TreeState<S>)> {
+        let tree = self.tree.as_ref()?.tree();
         if line.starts_with(b"flush ") {
-            Some(("flush", tree.stats()))
+            Some(("flush", tree))
         } else if line.starts_with(b"compact ") {
-            Some(("compaction", tree.stats()))
+            Some(("compaction", tree))
         } else {
             None
         }
     }
 
     fn store(&self) -> Option<&S> {
-        match &self.stage {
-            Some(Stage::Open(tree)) => Some(tree.store()),
-            Some(Stage::Closed(store)) => Some(store),
-            None => None,
+        match &self.tree {
+            Some(tree) => Some(tree.tree().store()),
+            None => self.store.as_ref(),
         }
     }
 
@@ -87,110 +96,93 @@ impl<S: SessionStore, T: SessionTree<S>> Session<S, T> {
         }
     }
 
+    fn reopen(&mut self) -> (Reply, Option<String>) {
+        match self.open() {
+            Ok(tables) => (Reply::Number("opened", tables as u64), None),
+            Err(refusal) => (Reply::Refused(refusal.error), refusal.cause),
+        }
+    }
+
     fn run(&mut self, command: Command) -> Result<Reply, Error> {
-        match command {
-            Command::Reopen => self.reopen(),
-            Command::Crash => self.crash(),
-            command => match &mut self.stage {
-                Some(Stage::Open(tree)) => run_on(self.alloc, tree, command),
-                _ => Ok(Reply::Usage),
-            },
-        }
-    }
-
-    /// Opens the tree again from its store. Refused, the store is kept, and only this is allowed.
-    fn reopen(&mut self) -> Result<Reply, Error> {
-        let store = match self.stage.take() {
-            Some(Stage::Open(tree)) => tree.into_store(),
-            Some(Stage::Closed(store)) => store,
-            None => return Ok(Reply::Usage),
-        };
-        match T::open(self.alloc, store) {
-            Ok(tree) => {
-                let tables = tree.stats().tables;
-                self.stage = Some(Stage::Open(tree));
-                Ok(Reply::Opened(tables))
-            }
-            Err(Unopened { refusal, store }) => {
-                self.cause = refusal.cause;
-                self.stage = Some(Stage::Closed(store));
-                Err(refusal.error)
-            }
-        }
-    }
-
-    /// Crashes the store, where it can be crashed and the tree is open. Then it is to be opened again.
-    fn crash(&mut self) -> Result<Reply, Error> {
-        let Some(Stage::Open(tree)) = &self.stage else {
+        let Some(tree) = &mut self.tree else {
             return Ok(Reply::Usage);
         };
-        match tree.store().crashed()? {
-            Some(left) => {
-                self.stage = Some(Stage::Closed(left));
-                Ok(Reply::Crashed)
-            }
-            None => Ok(Reply::Usage),
+        if let Command::Crash = command {
+            return self.crash();
         }
+        run_on(self.alloc, tree, command)
+    }
+
+    /// Crashes the store, where it can be crashed. Then it is to be opened again.
+    fn crash(&mut self) -> Result<Reply, Error> {
+        let Some(store) = self.store() else {
+            return Ok(Reply::Usage);
+        };
+        let Some(left) = store.crashed()? else {
+            return Ok(Reply::Usage);
+        };
+        self.tree = None;
+        self.store = Some(left);
+        Ok(Reply::Word("crashed"))
     }
 }
 
 /// Does what a command asks of an open tree.
-fn run_on<S: SessionStore, T: SessionTree<S>>(
+fn run_on<S: SessionStore>(
     alloc: Global,
-    tree: &mut T,
+    tree: &mut SessionTree<S>,
     command: Command,
 ) -> Result<Reply, Error> {
     match command {
         Command::Put(key, value) => write(alloc, tree, key, Op::Set(value)),
         Command::Del(key) => write(alloc, tree, key, Op::Del),
         Command::Weak(key) => write(alloc, tree, key, Op::Weak),
-        Command::Get(key, snapshot) => get(alloc, tree, &key, snapshot),
+        Command::Get(key, snapshot) => get(tree, &key, snapshot),
         Command::Range(low, high, snapshot) => range(tree, &(low, high), snapshot),
-        Command::Prefix(key, snapshot) => prefix(tree, &key, snapshot),
-        Command::Rotate => rotate(alloc, tree),
-        Command::Flush(watermark) => flush(alloc, tree, watermark),
-        Command::Compact(plan, watermark) => compact(alloc, tree, plan, watermark),
-        Command::DropRange(start, end) => {
-            Ok(told(tree.drop_range(alloc, OwnedBounds { start, end })?))
+        Command::Prefix(key, snapshot) => {
+            range(tree, &prefix_to_range(alloc, key.as_slice())?, snapshot)
         }
-        Command::Clear => Ok(Reply::Cleared(tree.clear(alloc)?)),
+        Command::Rotate => rotate(tree),
+        Command::Flush(watermark) => flush(tree, watermark),
+        Command::Compact(plan, watermark) => compact(alloc, tree, plan, watermark),
+        Command::DropRange(start, end) => told(tree.drop_range(OwnedBounds { start, end })),
+        Command::Clear => Ok(Reply::Number("cleared", tree.clear()?)),
         Command::Now(moment) => {
             tree.set_moment(moment);
-            Ok(Reply::Done)
+            Ok(Reply::Word("ok"))
         }
-        Command::Stats => Ok(Reply::Counted(tree.stats())),
-        Command::Levels => Ok(Reply::Drawn(draw_levels(alloc, tree.version())?)),
+        Command::Stats => Ok(Reply::Lines(count(alloc, tree.tree())?)),
+        Command::Levels => Ok(Reply::Lines(draw_levels(alloc, tree.tree().current_version())?)),
         Command::Crash | Command::Reopen => Ok(Reply::Usage),
     }
 }
 
-fn write<S: SessionStore, T: SessionTree<S>>(
+fn write<S: SessionStore>(
     alloc: Global,
-    tree: &mut T,
+    tree: &mut SessionTree<S>,
     key: UserKey,
     op: Op,
 ) -> Result<Reply, Error> {
     let Ok(ops) = vec![in alloc; (key, op)] else {
         return Err(Error::OutOfMemory);
     };
-    Ok(Reply::Written(tree.write(alloc, ops)?))
+    Ok(Reply::Number("ok", tree.write(ops)?))
 }
 
-fn get<S: SessionStore, T: SessionTree<S>>(
-    alloc: Global,
-    tree: &mut T,
+fn get<S: SessionStore>(
+    tree: &mut SessionTree<S>,
     key: &UserKey,
     snapshot: Option<SeqNo>,
 ) -> Result<Reply, Error> {
     let snapshot = snapshot_or_now(tree, snapshot);
-    Ok(match tree.get(alloc, key.as_slice(), snapshot)? {
+    Ok(match tree.get(key.as_slice(), snapshot)? {
         Some(value) => Reply::Value(value),
-        None => Reply::NoValue,
+        None => Reply::Word("none"),
     })
 }
 
-fn range<S: SessionStore, T: SessionTree<S>>(
-    tree: &T,
+fn range<S: SessionStore>(
+    tree: &SessionTree<S>,
     bounds: &(Bound<UserKey>, Bound<UserKey>),
     snapshot: Option<SeqNo>,
 ) -> Result<Reply, Error> {
@@ -198,63 +190,59 @@ fn range<S: SessionStore, T: SessionTree<S>>(
     Ok(Reply::Pairs(tree.range(bounds, snapshot)?))
 }
 
-fn prefix<S: SessionStore, T: SessionTree<S>>(
-    tree: &T,
-    prefix: &UserKey,
-    snapshot: Option<SeqNo>,
-) -> Result<Reply, Error> {
-    let snapshot = snapshot_or_now(tree, snapshot);
-    Ok(Reply::Pairs(tree.prefix(prefix, snapshot)?))
-}
-
-fn rotate<S: SessionStore, T: SessionTree<S>>(alloc: Global, tree: &mut T) -> Result<Reply, Error> {
-    Ok(match tree.rotate_memtable(alloc)? {
-        Some(id) => Reply::Rotated(id),
-        None => Reply::Nothing,
+fn rotate<S: SessionStore>(tree: &mut SessionTree<S>) -> Result<Reply, Error> {
+    Ok(match tree.rotate_memtable()? {
+        Some(id) => Reply::Number("rotated", id),
+        None => Reply::Word("nothing"),
     })
 }
 
-fn flush<S: SessionStore, T: SessionTree<S>>(
-    alloc: Global,
-    tree: &mut T,
-    watermark: SeqNo,
-) -> Result<Reply, Error> {
-    Ok(match tree.flush_active_memtable(alloc, watermark)? {
-        Some((size, registered)) => Reply::Flushed(size, registered.installed),
-        None => Reply::Nothing,
+fn flush<S: SessionStore>(tree: &mut SessionTree<S>, watermark: SeqNo) -> Result<Reply, Error> {
+    Ok(match tree.flush_active_memtable(watermark)? {
+        Some((size, registered)) if registered.installed => Reply::Flushed(size, "installed"),
+        Some((size, _)) => Reply::Flushed(size, "stale"),
+        None => Reply::Word("nothing"),
     })
 }
 
-fn compact<S: SessionStore, T: SessionTree<S>>(
+fn compact<S: SessionStore>(
     alloc: Global,
-    tree: &mut T,
+    tree: &mut SessionTree<S>,
     plan: Plan,
     watermark: SeqNo,
 ) -> Result<Reply, Error> {
-    let begun = match plan {
-        Plan::Leveled => tree.compact(alloc, &Leveled::new(alloc)?, watermark)?,
-        Plan::Major => tree.major_compact(alloc, watermark)?,
+    match plan {
+        Plan::Leveled => told(tree.compact(&Leveled::new(alloc)?, watermark)),
+        Plan::Major => told(tree.compact(&Major::default(), watermark)),
         Plan::Fifo(limit, ttl) => {
-            let fifo = Fifo::new(limit, Some(ttl), tree.moment());
-            tree.compact(alloc, &fifo, watermark)?
+            let fifo = Fifo::new(limit, Some(ttl), tree.tree().moment());
+            told(tree.compact(&fifo, watermark))
         }
-    };
-    Ok(told(begun))
-}
-
-/// What came of a compaction in one call, which hands out no job.
-fn told(begun: Begun) -> Reply {
-    match begun {
-        Begun::Installed => Reply::Compacted,
-        Begun::Declined(why) => Reply::Declined(why),
-        Begun::DidNothing | Begun::Job(_) => Reply::Nothing,
     }
 }
 
+/// What came of a compaction in one call, which hands out no job.
+fn told(begun: Result<Begun, Error>) -> Result<Reply, Error> {
+    Ok(match begun? {
+        Begun::Installed => Reply::Word("installed"),
+        Begun::Declined(why) => Reply::Declined(why),
+        Begun::DidNothing | Begun::Job(_) => Reply::Word("nothing"),
+    })
+}
+
+/// The line of what a tree counts: its tables and the runs of its first level, its sealed memtables, the entries of memtables
+/// and tables, and the bytes of its tables.
+fn count<S: SessionStore>(alloc: Global, tree: &TreeState<S>) -> Result<String, AllocError> {
+    let (tables, runs) = (tree.table_count(), tree.l0_run_count());
+    let (sealed, len) = (tree.sealed_memtable_count(), tree.approximate_len());
+    let bytes = tree.disk_space();
+    format!(in alloc; "tables {tables} runs {runs} sealed {sealed} len {len} bytes {bytes}\n")
+}
+
 /// The snapshot, or the one that sees every write so far.
-fn snapshot_or_now<S: SessionStore, T: SessionTree<S>>(tree: &T, snapshot: Option<SeqNo>) -> SeqNo {
+fn snapshot_or_now<S: SessionStore>(tree: &SessionTree<S>, snapshot: Option<SeqNo>) -> SeqNo {
     match snapshot {
         Some(snapshot) => snapshot,
-        None => tree.visible_number(),
+        None => tree.tree().visible_seqno().get(),
     }
 }

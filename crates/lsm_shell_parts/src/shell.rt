@@ -5,14 +5,12 @@ ghost use Rattle.std.specs.Io.KnownBytes.{IsAtEnd};
 
 use crate::arguments::{Mode, parse_arguments};
 use crate::cause::{Refusal, SessionStore};
-use crate::console::Console;
-use crate::kinds::SessionTree;
-use crate::progress::Watch;
+use crate::console::{Console, Errors};
 use crate::reply::Reply;
 use crate::session::Session;
 use crate::threads::call_all;
-use crate::watched::WatchedStore;
-use lsm_tree::{Error, FolderStore, Logged, MemStore, Recorded, StoreError};
+use crate::watched::{Watch, WatchedStore};
+use lsm_tree::{Error, FolderStore, MemStore, StoreError};
 use std::alloc::Global;
 use std::fs::{File, Files};
 use std::io::{self, BufRead, BufReader, BufWriter, ErrorKind, Read, Write};
@@ -28,9 +26,6 @@ const USAGE: u8 = 2;
 
 /// Stands before the other arguments, where long work isn't to show itself.
 const QUIET: &str = "--quiet";
-
-/// A store over a folder, which says how far long work is.
-type Watched<P, E> = WatchedStore<FolderStore<P>, P, E>;
 
 /// Does what the arguments ask, and gives the status to end with.
 ///
@@ -50,7 +45,7 @@ pub fn run_shell<P, R, W, E>(
     rt: &P,
     alloc: Global,
     arguments: Option<&[String]>,
-    mut console: Console<R, W, E>,
+    console: Console<R, W, E>,
 ) -> u8
 where
     P: Threads + Wait + Sync + Files<File = File> + Clock + Alloc + Clone + Drop,
@@ -58,97 +53,71 @@ where
     W: Write + Drop,
     E: Write + Drop,
 {
-    let (is_quiet, arguments) = split_quiet(arguments);
-    if is_quiet {
-        console.watch = None;
-    }
+    let (watch, arguments) = match arguments {
+        Some([first, rest @ ..]) if first.as_str() == QUIET => (None, Some(rest)),
+        _ => (console.watch, arguments),
+    };
+    let (input, output) = (console.input, console.output);
+    let mut errors = Errors {
+        errors: console.errors,
+        is_terminal: console.is_terminal,
+        long: watch.as_ref().map(|watch| watch.entries),
+    };
     let Some(mode) = arguments.and_then(parse_arguments) else {
-        console.tell("usage: lsm_shell [--quiet] [FOLDER | logged [FOLDER] | threads N]");
+        errors.tell("usage: lsm_shell [--quiet] [FOLDER | logged [FOLDER] | threads N]");
         return USAGE;
     };
-    let watch = console.watch.take();
-    let long = watch.as_ref().map(|watch| watch.entries);
     let told = match mode {
-        Mode::Memory => answer_lines(alloc, open_memory::<Recorded>(alloc), console, long),
-        Mode::Folder(folder) => {
-            let opened = open_folder::<P, E, Recorded<Watched<P, E>>>(rt, alloc, folder, watch);
-            answer_lines(alloc, opened, console, long)
+        Mode::Threads(callers) => report_callers(rt, alloc, callers, output),
+        Mode::Memory(is_logged) => {
+            let session = Session::new(alloc, MemStore::new(alloc), is_logged);
+            answer_lines(alloc, session, input, output, errors)
         }
-        Mode::LoggedMemory => answer_lines(alloc, open_memory::<Logged>(alloc), console, long),
-        Mode::LoggedFolder(folder) => {
-            let opened = open_folder::<P, E, Logged<Watched<P, E>>>(rt, alloc, folder, watch);
-            answer_lines(alloc, opened, console, long)
-        }
-        Mode::Threads(callers) => report_callers(rt, alloc, callers, console),
+        Mode::Folder(folder, is_logged) => match open_folder(rt, alloc, folder, watch) {
+            Ok(store) => {
+                let session = Session::new(alloc, store, is_logged);
+                answer_lines(alloc, session, input, output, errors)
+            }
+            Err(refusal) => refuse(refusal, output, errors),
+        },
     };
     told.unwrap_or(FAULT)
 }
 
-/// The arguments after `--quiet`, and whether that stands before them.
-fn split_quiet(arguments: Option<&[String]>) -> (bool, Option<&[String]>) {
-    match arguments {
-        Some([first, rest @ ..]) if first.as_str() == QUIET => (true, Some(rest)),
-        _ => (false, arguments),
-    }
-}
-
-/// A session over a new tree in memory.
-fn open_memory<T: SessionTree<MemStore>>(alloc: Global) -> Result<Session<MemStore, T>, Refusal> {
-    Session::open(alloc, MemStore::new(alloc))
-}
-
-/// A session over the tree of a folder, which is made where it is absent.
-fn open_folder<P, E, T>(
+/// The store of a folder, which is made where it is absent, and which says how far long work is.
+fn open_folder<P, E>(
     rt: &P,
     alloc: Global,
     folder: &str,
     watch: Option<Watch<E>>,
-) -> Result<Session<Watched<P, E>, T>, Refusal>
+) -> Result<WatchedStore<FolderStore<P>, P, E>, Refusal>
 where
     P: Files<File = File> + Clock + Alloc + Clone + Drop,
     E: Write + Drop,
-    T: SessionTree<Watched<P, E>>,
 {
     match FolderStore::new(rt, alloc, folder) {
         Ok(store) => match rt.clone() {
-            Ok(clock) => Session::open(alloc, WatchedStore::new(store, clock, watch)),
-            Err(_) => Err(unopened(Error::OutOfMemory, None)),
+            Ok(clock) => Ok(WatchedStore::new(store, clock, watch)),
+            Err(_) => Err(Refusal::new(Error::OutOfMemory, None)),
         },
         Err(fault) => {
             let cause = format!(in alloc; "{fault}").ok();
             match StoreError::from(fault) {
-                StoreError::OutOfMemory => Err(unopened(Error::OutOfMemory, cause)),
+                StoreError::OutOfMemory => Err(Refusal::new(Error::OutOfMemory, cause)),
                 StoreError::Fault | StoreError::NothingDone => {
-                    Err(unopened(Error::Store, cause))
+                    Err(Refusal::new(Error::Store, cause))
                 }
             }
         }
     }
 }
 
-/// Why a folder is no store.
-fn unopened(error: Error, cause: Option<String>) -> Refusal {
-    Refusal {
-        error,
-        cause,
-        has_log: false,
-    }
-}
-
 /// Starts the callers, prints what came of it, and gives the status.
-fn report_callers<P, R, W, E>(
-    rt: &P,
-    alloc: Global,
-    callers: u8,
-    mut console: Console<R, W, E>,
-) -> io::Result<u8>
+fn report_callers<P, W>(rt: &P, alloc: Global, callers: u8, mut output: W) -> io::Result<u8>
 where
     P: Threads + Wait + Sync,
-    R: Read + Drop,
     W: Write + Drop,
-    E: Write + Drop,
 {
-    let output = &mut console.output;
     let status = match call_all(rt, alloc, callers) {
         Ok(Some(entries)) => {
             writeln!(output, "threads {callers} entries {entries} all equal")?;
@@ -163,51 +132,55 @@ where
     Ok(status)
 }
 
-/// Answers lines from what was opened, or says why nothing was.
-fn answer_lines<S, T, R, W, E>(
+/// Says why nothing was opened.
+fn refuse<W, E>(refusal: Refusal, mut output: W, mut errors: Errors<E>) -> io::Result<u8>
+where
+    W: Write + Drop,
+    E: Write + Drop,
+{
+    errors.tell_refusal(&refusal);
+    Reply::Refused(refusal.error).write_to(&mut output)?;
+    output.flush()?;
+    Ok(FAULT)
+}
+
+/// Opens the tree of a session and answers lines from it, or says why it wasn't opened.
+fn answer_lines<S, R, W, E>(
     alloc: Global,
-    opened: Result<Session<S, T>, Refusal>,
-    mut console: Console<R, W, E>,
-    long: Option<usize>,
+    mut session: Session<S>,
+    input: R,
+    output: W,
+    errors: Errors<E>,
 ) -> io::Result<u8>
 where
     S: SessionStore,
-    T: SessionTree<S>,
     R: Read + Drop,
     W: Write + Drop,
     E: Write + Drop,
 {
-    match opened {
-        Ok(mut session) => {
-            answer_each(alloc, &mut session, console, long)?;
-            Ok(SUCCESS)
-        }
-        Err(refusal) => {
-            console.tell_refusal(&refusal);
-            let mut output = console.output;
-            Reply::Refused(refusal.error).write_to(&mut output)?;
-            output.flush()?;
-            Ok(FAULT)
-        }
+    if let Err(refusal) = session.open() {
+        return refuse(refusal, output, errors);
     }
+    let mut errors = errors;
+    let mut output = BufWriter::new(alloc, output)?;
+    let mut input = BufReader::new(alloc, input)?;
+    answer_each(alloc, &mut session, &mut input, &mut output, &mut errors)?;
+    Ok(SUCCESS)
 }
 
-fn answer_each<S, T, R, W, E>(
+fn answer_each<S, R, W, E>(
     alloc: Global,
-    session: &mut Session<S, T>,
-    console: Console<R, W, E>,
-    long: Option<usize>,
+    session: &mut Session<S>,
+    input: &mut BufReader<R>,
+    output: &mut BufWriter<W>,
+    errors: &mut Errors<E>,
 ) -> io::Result<()>
 where
     S: SessionStore,
-    T: SessionTree<S>,
     R: Read + Drop,
     W: Write + Drop,
     E: Write + Drop,
 {
-    let (input, output, mut errors) = console.into_parts(long);
-    let mut output = BufWriter::new(alloc, output)?;
-    let mut input = BufReader::new(alloc, input)?;
     let mut line = Vec::new(alloc);
     for _ in 0..u64::MAX {
         // Whoever writes the lines may wait for the answers to the earlier ones. So the output is
@@ -215,10 +188,10 @@ where
         if !input.buffer().contains(&b'\n') {
             output.flush()?;
         }
-        let (reply, cause) = match read_line(&mut input, &mut line) {
+        let (reply, cause) = match read_line(input, &mut line) {
             Ok(true) => {
-                if let Some((work, stats)) = session.foresee(line.as_slice()) {
-                    errors.announce(work, stats);
+                if let Some((work, tree)) = session.foresee(line.as_slice()) {
+                    errors.announce(work, tree);
                 }
                 session.answer(line.as_slice())
             }
@@ -232,7 +205,7 @@ where
             Err(error) => return Err(error),
         };
         errors.tell_of(&reply, cause);
-        reply.write_to(&mut output)?;
+        reply.write_to(output)?;
     }
     output.flush()
 }

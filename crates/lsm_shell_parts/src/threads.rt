@@ -1,7 +1,7 @@
 // Callers in threads of their own, on one tree.
 use lsm_below::UserKey;
 use lsm_tree::{Config, Error, Handle, MemStore, Op, Pass, Recorded, RecordedTree};
-use std::alloc::{AllocError, Global};
+use std::alloc::Global;
 use std::sync::Wait;
 use std::thread::{self, Threads};
 
@@ -28,25 +28,6 @@ pub fn call_all<R: Threads + Wait + Sync>(
         usize::from(callers),
         &|caller| { call(rt, alloc, &tree, caller) },
     )?;
-    let Some(passes) = all_passes(alloc, told)? else {
-        return Ok(None);
-    };
-    Ok(count_entries(rt, &tree, passes))
-}
-
-/// How many entries the journal has that these passes list.
-fn count_entries(rt: &impl Wait, tree: &RecordedTree, passes: Vec<Pass>) -> Option<usize> {
-    match tree.close(rt, passes) {
-        Ok(closed) => Some(closed.journal.len()),
-        Err(_) => None,
-    }
-}
-
-/// The passes of callers, None where one read something else than it wrote.
-fn all_passes(
-    alloc: Global,
-    told: Vec<Result<Option<Pass>, Error>>,
-) -> Result<Option<Vec<Pass>>, Error> {
     let mut passes = Vec::with_capacity(alloc, told.len())?;
     for pass in told {
         match pass? {
@@ -54,7 +35,11 @@ fn all_passes(
             None => return Ok(None),
         }
     }
-    Ok(Some(passes))
+    Ok(
+        tree.close(rt, passes)
+            .ok()
+            .map(|closed| closed.journal.len()),
+    )
 }
 
 /// What one caller's calls put into the journal, None where it read something else than it wrote.
@@ -66,17 +51,13 @@ fn call(
 ) -> Result<Option<Pass>, Error> {
     let mut pass = Pass::new(alloc);
     for key in 0..KEYS {
-        if !write_and_read(rt, alloc, tree, &mut pass, name_key(alloc, caller, key)?)? {
+        let name = format!(in alloc; "{caller}-{key}")?;
+        let key = UserKey::copy_from_slice(alloc, name.as_bytes())?;
+        if !write_and_read(rt, alloc, tree, &mut pass, key)? {
             return Ok(None);
         }
     }
     Ok(Some(pass))
-}
-
-/// The name of a key that no other caller writes.
-fn name_key(alloc: Global, caller: usize, key: u8) -> Result<UserKey, AllocError> {
-    let name = format!(in alloc; "{caller}-{key}")?;
-    UserKey::copy_from_slice(alloc, name.as_bytes())
 }
 
 /// Writes a key with its own bytes as its value, and reads it back: whether it is what was written.
@@ -87,15 +68,9 @@ fn write_and_read(
     pass: &mut Pass,
     key: UserKey,
 ) -> Result<bool, Error> {
-    let number = tree.write(rt, pass, set(alloc, &key)?)?;
+    let value = key.clone()?;
+    let ops = vec![in alloc; (key.clone()?, Op::Set(value))]?;
+    let number = tree.write(rt, pass, ops)?;
     let found = tree.get(rt, pass, key.as_slice(), number.saturating_add(1))?;
     Ok(found.is_some_and(|value| value == key))
-}
-
-/// A write of this key with its own bytes as its value.
-fn set(alloc: Global, key: &UserKey) -> Result<Vec<(UserKey, Op)>, AllocError> {
-    let value = key.clone()?;
-    let mut ops = Vec::with_capacity(alloc, 1)?;
-    ops.push((key.clone()?, Op::Set(value)))?;
-    Ok(ops)
 }

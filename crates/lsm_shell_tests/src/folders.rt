@@ -1,5 +1,5 @@
 // What is printed over a folder.
-use crate::shells::{Row, answers_with, ends};
+use crate::shells::{answers_with, arguments_of, ends};
 use bytes::Bytes;
 use lsm_tree::{
     Error, FolderStore, Store, StoreError, Table, Version, ids_are_own, is_run, persist_version,
@@ -55,7 +55,7 @@ fn answers_over<R>(
 where
     R: Threads + Wait + Sync + Files<File = File> + Clock + Alloc + Clone + Drop,
 {
-    let arguments = vec![in alloc; String::from_str(alloc, folder)?]?;
+    let arguments = arguments_of(alloc, folder)?;
     let input = b"get a\nput b y\nrange - -\n".as_slice();
     Ok(ends(rt, alloc, Some(&arguments), input, told))
 }
@@ -80,7 +80,7 @@ fn a_folder_is_read_again(rt: HostRuntime) -> Result<(), Fail> {
     assert!(rt; answers_over(&rt, alloc, FOLDER, (read, b"", 0))?);
     assert!(rt; answers_over(&rt, alloc, FOLDER, (read, b"", 0))?);
     // A folder isn't crashed; what is flushed into it stays there.
-    let arguments = vec![in alloc; String::from_str(alloc, FOLDER)?]?;
+    let arguments = arguments_of(alloc, FOLDER)?;
     let input = b"crash\nput b z\nflush 0\nreopen\nget b\n".as_slice();
     let told = b"error 0 Usage\nok 1\nflushed 50 installed\nopened 2\nvalue z\n";
     assert!(rt; ends(&rt, alloc, Some(&arguments), input, (told, b"", 0)));
@@ -125,7 +125,7 @@ fn causes_are_told(rt: HostRuntime) -> Result<(), Fail> {
     drop(filled(&rt, alloc, folder)?);
     // A device that is always full, under the name of the next table.
     rt.symlink("/dev/full", "lsm_shell_full/tables/4")?;
-    let arguments = vec![in alloc; String::from_str(alloc, folder)?]?;
+    let arguments = arguments_of(alloc, folder)?;
     let input = b"put b y\nflush 0\nget b\nflush 0\n".as_slice();
     let told = b"ok 1\nerror 2 Store\nvalue y\nflushed 50 installed\n";
     let cause = b"tables/4: write: No space left on device (os error 28)\n";
@@ -135,67 +135,59 @@ fn causes_are_told(rt: HostRuntime) -> Result<(), Fail> {
 }
 
 /// What a first start flushes, and what it doesn't.
-const FIRST_START: [Row; 3] = [
-    (b"put a x", b"ok 0"),
-    (b"flush 0", b"flushed 50 installed"),
-    (b"put b y", b"ok 2"),
-];
+const FIRST_START: &str = "put a x=ok 0
+flush 0=flushed 50 installed
+put b y=ok 2";
 
 /// What a second start reads of that. It goes on with the numbers above what it found.
-const SECOND_START: [Row; 4] = [
-    (b"get a", b"value x"),
-    (b"get b", b"none"),
-    (b"stats", b"tables 1 runs 1 sealed 0 len 1 bytes 37"),
-    (b"put b z", b"ok 1"),
-];
+const SECOND_START: &str = "get a=value x
+get b=none
+stats=tables 1 runs 1 sealed 0 len 1 bytes 37
+put b z=ok 1";
 
 #[test]
 fn a_second_start_reads_what_the_first_one_flushed(rt: HostRuntime) -> Result<(), Fail> {
     let alloc = rt.alloc();
     let folder = "lsm_shell_twice";
     let _ = fs::remove_dir_all(&rt, folder);
-    let arguments = vec![in alloc; String::from_str(alloc, folder)?]?;
-    assert!(rt; answers_with(&rt, alloc, &arguments, &FIRST_START, b"")?);
-    assert!(rt; answers_with(&rt, alloc, &arguments, &SECOND_START, b"")?);
+    let arguments = arguments_of(alloc, folder)?;
+    assert!(rt; answers_with(&rt, alloc, &arguments, FIRST_START, b"")?);
+    assert!(rt; answers_with(&rt, alloc, &arguments, SECOND_START, b"")?);
     fs::remove_dir_all(&rt, folder)?;
     Ok(())
 }
 
 /// A clear stays where the tree is opened again.
-const CLEARED: [Row; 6] = [
-    (b"clear", b"cleared 1"),
-    (b"get a", b"none"),
-    (b"get a 1", b"value x"),
-    (b"reopen", b"opened 0"),
-    (b"get a", b"none"),
-    (b"clear", b"cleared 0"),
-];
+const CLEARED: &str = "clear=cleared 1
+get a=none
+get a 1=value x
+reopen=opened 0
+get a=none
+clear=cleared 0";
 
 /// A commit that is known not to have replaced `current` is refused, and the tree goes on.
-const REFUSED: [Row; 8] = [
-    (b"clear", b"error 2 Store"),
-    (b"get a", b"value x"),
-    (b"put b y", b"ok 2"),
-    (b"get b", b"value y"),
-    (b"flush 0", b"error 2 Store"),
-    (b"get b", b"value y"),
-    (b"reopen", b"opened 1"),
-    (b"get a", b"value x"),
-];
+const REFUSED: &str = "clear=error 2 Store
+get a=value x
+put b y=ok 2
+get b=value y
+flush 0=error 2 Store
+get b=value y
+reopen=opened 1
+get a=value x";
 
 #[test]
 fn a_folder_is_cleared(rt: HostRuntime) -> Result<(), Fail> {
     let alloc = rt.alloc();
     let folder = "lsm_shell_clear";
     drop(filled(&rt, alloc, folder)?);
-    let arguments = vec![in alloc; String::from_str(alloc, folder)?]?;
+    let arguments = arguments_of(alloc, folder)?;
     // No file can be made that would replace `current`.
     fs::create_dir_all(&rt, "lsm_shell_clear/replace.new")?;
     let causes = b"current: replace: Is a directory (os error 21)\n\
         current: replace: Is a directory (os error 21)\n";
-    assert!(rt; answers_with(&rt, alloc, &arguments, &REFUSED, causes)?);
+    assert!(rt; answers_with(&rt, alloc, &arguments, REFUSED, causes)?);
     fs::remove_dir_all(&rt, "lsm_shell_clear/replace.new")?;
-    assert!(rt; answers_with(&rt, alloc, &arguments, &CLEARED, b"")?);
+    assert!(rt; answers_with(&rt, alloc, &arguments, CLEARED, b"")?);
     fs::remove_dir_all(&rt, folder)?;
     Ok(())
 }

@@ -3,11 +3,11 @@
 #![tactic(auto)]
 
 #[cfg(test)]
-mod compaction_rows;
-#[cfg(test)]
 mod folders;
 #[cfg(test)]
 mod logged;
+#[cfg(test)]
+mod scripts;
 #[cfg(test)]
 mod shells;
 #[cfg(test)]

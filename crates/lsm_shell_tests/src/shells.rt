@@ -1,8 +1,5 @@
 // What is printed, and how a run ends.
-use crate::compaction_rows::{
-    ALL_DROPPED, DROPPED, EVICTING_MAJOR, FIFO_BY_AGE, FIFO_BY_LIMIT, FIFO_OF_TWO_RUNS,
-    FIRST_LEVELED, MAJOR,
-};
+use crate::scripts::{BOTH, LOGGED, OTHER_COUNT, OTHERS, PLAIN};
 use lsm_shell_parts::{Console, run_shell};
 use std::alloc::{AllocError, Global};
 use std::cell::Cell;
@@ -12,165 +9,6 @@ use std::sync::Wait;
 use std::test::Fail;
 use std::thread::Threads;
 use std::time::Clock;
-
-/// A line, and what is printed for it.
-pub type Row = (&'static [u8], &'static [u8]);
-
-/// A key is written, read, removed, and read at older snapshots.
-pub const REMOVED: [Row; 9] = [
-    (b"put a x", b"ok 0"),
-    (b"get a", b"value x"),
-    (b"del a", b"ok 1"),
-    (b"get a", b"none"),
-    (b"get a 1", b"value x"),
-    (b"get a 0", b"none"),
-    (b"rotate", b"rotated 0"),
-    (b"rotate", b"nothing"),
-    (b"get a 1", b"value x"),
-];
-
-const WEAKLY_REMOVED: [Row; 3] = [
-    (b"weak a", b"ok 0"),
-    (b"put a x", b"ok 1"),
-    (b"put a y", b"error 18 OutOfOrder"),
-];
-
-/// Any byte from 33 to 126 makes a word, and the greatest number is a snapshot.
-pub const EXTREMES: [Row; 3] = [
-    (b"put ! ~", b"ok 0"),
-    (b"get ! 18446744073709551615", b"value ~"),
-    (b"get ~ 0", b"none"),
-];
-
-pub const GOES_ON: [Row; 3] = [
-    (b"get a", b"none"),
-    (b"", b"error 0 Usage"),
-    (b"rotate", b"nothing"),
-];
-
-pub const LISTED: [Row; 11] = [
-    (b"put a 1", b"ok 0"),
-    (b"put b 2", b"ok 1"),
-    (b"put c 3", b"ok 2"),
-    (b"range a c", b"a 1\nb 2\nend 2"),
-    (b"range c a", b"end 0"),
-    (b"range - - 1", b"a 1\nend 1"),
-    (b"range b -", b"b 2\nc 3\nend 2"),
-    (b"range - b", b"a 1\nend 1"),
-    (b"prefix -", b"a 1\nb 2\nc 3\nend 3"),
-    (b"prefix b", b"b 2\nend 1"),
-    (b"prefix - 1", b"a 1\nend 1"),
-];
-
-pub const FLUSHED: [Row; 8] = [
-    (b"put a x", b"ok 0"),
-    (b"flush 0", b"flushed 50 installed"),
-    (b"del a", b"ok 2"),
-    (b"get a 2", b"value x"),
-    (b"get a", b"none"),
-    (b"stats", b"tables 1 runs 1 sealed 0 len 2 bytes 37"),
-    (b"now 18446744073709551615", b"ok"),
-    (b"flush 0", b"flushed 49 installed"),
-];
-
-/// A value and its weak removal leave together.
-pub const FLUSHED_AWAY: [Row; 7] = [
-    (b"put a x", b"ok 0"),
-    (b"weak a", b"ok 1"),
-    (b"flush 2", b"flushed 99 installed"),
-    (b"get a 1", b"value x"),
-    (b"get a 2", b"none"),
-    (b"get a 3", b"none"),
-    (b"stats", b"tables 0 runs 0 sealed 0 len 0 bytes 0"),
-];
-
-/// What is synced outlives a crash, and what is in memory doesn't.
-const CRASHED: [Row; 7] = [
-    (b"put a x", b"ok 0"),
-    (b"flush 0", b"flushed 50 installed"),
-    (b"put b y", b"ok 2"),
-    (b"crash", b"crashed"),
-    (b"reopen", b"opened 1"),
-    (b"get a", b"value x"),
-    (b"get b", b"none"),
-];
-
-/// After a crash the tree is to be opened again before all else; a tree that is open may be opened again as well.
-const CLOSED: [Row; 9] = [
-    (b"flush 0", b"nothing"),
-    (b"put a x", b"ok 0"),
-    (b"crash", b"crashed"),
-    (b"get a", b"error 0 Usage"),
-    (b"crash", b"error 0 Usage"),
-    (b"stats", b"error 0 Usage"),
-    (b"reopen", b"opened 0"),
-    (b"get a", b"none"),
-    (b"reopen", b"opened 0"),
-];
-
-/// After a clear nothing is read, but at the snapshots that aren't above its number.
-const CLEARED: [Row; 14] = [
-    (b"clear", b"cleared 0"),
-    (b"put a x", b"ok 1"),
-    (b"flush 0", b"flushed 50 installed"),
-    (b"put b y", b"ok 3"),
-    (b"clear", b"cleared 4"),
-    (b"range - -", b"end 0"),
-    (b"range - - 4", b"a x\nb y\nend 2"),
-    (b"stats", b"tables 0 runs 0 sealed 0 len 0 bytes 0"),
-    (b"put b z", b"ok 5"),
-    (b"get b", b"value z"),
-    (b"get b 5", b"none"),
-    (b"crash", b"crashed"),
-    (b"reopen", b"opened 0"),
-    (b"range - -", b"end 0"),
-];
-
-/// Lines that ask nothing.
-const OTHERS: [&[u8]; 42] = [
-    b"",
-    b" ",
-    b"put a",
-    b"put a x y",
-    b"put a \x80",
-    b"put a \x7f",
-    b"put a\tx",
-    b"del",
-    b"del a b",
-    b"weak",
-    b"get",
-    b"get  a",
-    b"get a ",
-    b"get a\r",
-    b"get a 18446744073709551616",
-    b"get a 01",
-    b"get a +5",
-    b" rotate",
-    b"rotate x",
-    b"Rotate",
-    b"prefix",
-    b"prefix a 01",
-    b"range a",
-    b"range a c 01",
-    b"range a c 1 2",
-    b"flush",
-    b"flush 01",
-    b"flush a",
-    b"compact",
-    b"compact leveled",
-    b"compact leveled x",
-    b"compact minor 1",
-    b"compact major 1 2",
-    b"compact fifo 1 2",
-    b"compact fifo 1 x 2",
-    b"compact fifo 1 2 3 4",
-    b"drop a",
-    b"drop a b c",
-    b"now -1",
-    b"stats 1",
-    b"clear 1",
-    b"reopen x",
-];
 
 /// A console at which nobody types.
 fn console<R, W, E>(input: R, output: W, errors: E) -> Console<R, W, E> {
@@ -216,12 +54,12 @@ pub fn push_line(text: &mut Vec<u8>, line: &[u8]) -> Result<(), AllocError> {
     text.extend_from_slice(b"\n")
 }
 
-/// Whether a run with these arguments prints for each line what its row says, and writes that to the errors.
+/// Whether a run with these arguments prints what the script says, and writes that to the errors.
 pub fn answers_with<R>(
     rt: &R,
     alloc: Global,
     arguments: &[String],
-    rows: &[Row],
+    script: &str,
     told: &[u8],
 ) -> Result<bool, AllocError>
 where
@@ -229,58 +67,34 @@ where
 {
     let mut input = Vec::new(alloc);
     let mut printed = Vec::new(alloc);
-    for (line, answer) in rows {
-        push_line(&mut input, line)?;
-        push_line(&mut printed, answer)?;
+    for row in script.lines() {
+        let (line, answers) = row.split_once('=').unwrap_or((row, ""));
+        push_line(&mut input, line.as_bytes())?;
+        for answer in answers.split('/') {
+            push_line(&mut printed, answer.as_bytes())?;
+        }
     }
-    Ok(ends(
-        rt,
-        alloc,
-        Some(arguments),
-        input.as_slice(),
-        (&printed, told, 0),
-    ))
-}
-
-/// Whether a run without arguments does.
-fn answers<R>(rt: &R, alloc: Global, rows: &[Row]) -> Result<bool, AllocError>
-where
-    R: Threads + Wait + Sync + Files<File = File> + Clock + Alloc + Clone + Drop,
-{
-    answers_with(rt, alloc, &[], rows, b"")
+    let told = (printed.as_slice(), told, 0);
+    Ok(ends(rt, alloc, Some(arguments), input.as_slice(), told))
 }
 
 #[test]
 fn answers_lines(rt: HostRuntime) -> Result<(), Fail> {
-    let tables = [
-        REMOVED.as_slice(),
-        WEAKLY_REMOVED.as_slice(),
-        EXTREMES.as_slice(),
-        GOES_ON.as_slice(),
-        LISTED.as_slice(),
-        FLUSHED.as_slice(),
-        FLUSHED_AWAY.as_slice(),
-        CRASHED.as_slice(),
-        CLOSED.as_slice(),
-        CLEARED.as_slice(),
-        FIRST_LEVELED.as_slice(),
-        EVICTING_MAJOR.as_slice(),
-        MAJOR.as_slice(),
-        FIFO_BY_LIMIT.as_slice(),
-        FIFO_BY_AGE.as_slice(),
-        FIFO_OF_TWO_RUNS.as_slice(),
-        DROPPED.as_slice(),
-        ALL_DROPPED.as_slice(),
-    ];
-    for (number, rows) in tables.iter().enumerate() {
-        assert!(rt; answers(&rt, rt.alloc(), rows)?, "table {number}");
-    }
-    for line in OTHERS {
+    let logged = arguments_of(rt.alloc(), "logged")?;
+    for script in BOTH.iter().chain(&PLAIN) {
         assert!(rt;
-            answers(&rt, rt.alloc(), &[(line, b"error 0 Usage")])?,
-            "at {line:?}"
+            answers_with(&rt, rt.alloc(), &[], *script, b"")?,
+            "{script}"
         );
     }
+    for script in BOTH.iter().chain(&LOGGED) {
+        assert!(rt;
+            answers_with(&rt, rt.alloc(), &logged, *script, b"")?,
+            "logged {script}"
+        );
+    }
+    let usage = b"error 0 Usage\n".repeat(rt.alloc(), OTHER_COUNT)?;
+    assert!(rt; prints(&rt, rt.alloc(), OTHERS, &usage));
     assert!(rt; prints(&rt, rt.alloc(), b"", b""));
     // The last line has no end.
     assert!(rt; prints(&rt, rt.alloc(), b"put a x\nget a", b"ok 0\nvalue x\n"));
@@ -317,7 +131,7 @@ fn draws_levels(rt: HostRuntime) -> Result<(), Fail> {
 }
 
 /// The arguments between single spaces, none for an empty text.
-fn arguments_of(alloc: Global, text: &str) -> Result<Vec<String>, AllocError> {
+pub fn arguments_of(alloc: Global, text: &str) -> Result<Vec<String>, AllocError> {
     let mut words = Vec::new(alloc);
     for word in text.split(' ') {
         if !word.is_empty() {
