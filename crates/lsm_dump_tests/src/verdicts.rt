@@ -37,7 +37,7 @@ fn told_of(alloc: Global, store: &mut MemStore) -> Result<(u8, u8, bool), Error>
     let verdict = number_of(judge(alloc, store));
     let tree = number_of(judge_tree(alloc, store));
     let found = look_into(alloc, store)?;
-    Ok((verdict, tree, !found.damage.is_empty()))
+    Ok((verdict, tree, !found.faults.is_empty()))
 }
 
 /// Whether what is told of a store is what comes of opening it, twice, since it is changed by that.
