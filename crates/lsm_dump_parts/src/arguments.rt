@@ -70,13 +70,33 @@ enum Company {
 type Row = (&'static str, Option<&'static str>, Company, &'static str);
 
 const OPTIONS: [Row; 8] = [
-    ("check", None, Company::View, "read all that opening reads, and say whether it would open; of each damaged file what is wrong"),
+    (
+        "check",
+        None,
+        Company::View,
+        "read all that opening reads, and say whether it would open; of each damaged file what is wrong",
+    ),
     ("table", Some("N"), Company::View, "the entries of tables/N"),
-    ("from", Some("KEY"), Company::Table, "begin at this key; one behind 0x is in hex"),
+    (
+        "from",
+        Some("KEY"),
+        Company::Table,
+        "begin at this key; one behind 0x is in hex",
+    ),
     ("to", Some("KEY"), Company::Table, "end before this key"),
-    ("limit", Some("N"), Company::Table, "end after so many entries"),
+    (
+        "limit",
+        Some("N"),
+        Company::Table,
+        "end after so many entries",
+    ),
     ("record", Some("N"), Company::View, "the writes of log/N"),
-    ("levels", None, Company::View, "the levels, drawn with characters"),
+    (
+        "levels",
+        None,
+        Company::View,
+        "the levels, drawn with characters",
+    ),
     ("json", None, Company::NoLevels, "one JSON object"),
 ];
 
@@ -106,7 +126,9 @@ fn command<'a>(alloc: Global) -> Result<Command<'a>, AllocError> {
     let folder = Arg::new(alloc, "FOLDER")
         .required(true)
         .value_parser(ValueParser::NonEmptyString)
-        .help("alone: the version, each table, each record of the log, orphans, what is damaged, and totals");
+        .help(
+            "alone: the version, each table, each record of the log, orphans, what is damaged, and totals",
+        );
     let mut command = Command::new(alloc, "lsm_dump")
         .no_binary_name(true)
         .about("Looks into the folder of a tree, writes nothing there, and takes no lock.")

@@ -77,7 +77,10 @@ pub(crate) enum Listing {
 
 fn entry_row(alloc: Global, entry: &InternalValue) -> Result<Row, AllocError> {
     let (kind, value) = match entry.key.value_type {
-        ValueType::Value => ("value", Some(ShownBytes::new(alloc, entry.value.as_slice())?)),
+        ValueType::Value => (
+            "value",
+            Some(ShownBytes::new(alloc, entry.value.as_slice())?),
+        ),
         ValueType::Tombstone => ("tombstone", None),
         ValueType::WeakTombstone => ("weak tombstone", None),
     };

@@ -78,10 +78,14 @@ fn items_fault(alloc: Global, bytes: &[u8], form: &Form) -> Result<String, Alloc
         match skip_item(rest, form.gap) {
             Ok(behind) => rest = behind,
             Err(Broken::Lacks(count)) => {
-                return format!(in alloc; "is cut: {name} {item}, at byte {at}, lacks {count} bytes");
+                return format!(in alloc;
+                    "is cut: {name} {item}, at byte {at}, lacks {count} bytes"
+                );
             }
             Err(Broken::Type(code)) => {
-                return format!(in alloc; "{name} {item}, at byte {at}, has type {code}, or a value beside it");
+                return format!(in alloc;
+                    "{name} {item}, at byte {at}, has type {code}, or a value beside it"
+                );
             }
         }
     }

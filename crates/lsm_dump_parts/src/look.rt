@@ -137,7 +137,9 @@ fn look_behind<S: Store>(
     put_damage(alloc, &mut others.damage, named.id, &tables, &records)?;
     Ok(Look {
         version: named.id,
-        format: named.id.map(|_| if named.log_from.is_some() { 4 } else { 3 }),
+        format: named
+            .id
+            .map(|_| if named.log_from.is_some() { 4 } else { 3 }),
         is_new: named.is_new,
         log_from,
         total: totals_of(&tables, &records),

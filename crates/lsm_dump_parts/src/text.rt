@@ -3,7 +3,8 @@ use crate::look::{Damage, Entries, Look, RecordLook, TableLook};
 use crate::shown::ShownBytes;
 use std::alloc::{AllocError, Global};
 
-const TABLE_HEADS: &str = "\nlevel\trun\ttable\tentries\ttombstones\tweak\tbytes\tnumbers\tmade at\tchecksum\tsum\tkeys\n";
+const TABLE_HEADS: &str =
+    "\nlevel\trun\ttable\tentries\ttombstones\tweak\tbytes\tnumbers\tmade at\tchecksum\tsum\tkeys\n";
 
 const RECORD_HEADS: &str = "\nrecord\twrites\tremovals\tbytes\tstate\n";
 
@@ -72,8 +73,7 @@ fn push_record(out: &mut String, record: &RecordLook) -> Result<(), AllocError> 
         (Some(writes), _) => write!(
             out,
             "{number}\t{}\t{}\t{bytes}\twhole\n",
-            writes.count,
-            writes.removals
+            writes.count, writes.removals
         ),
         (None, Some(fault)) => write!(out, "{number}\t-\t-\t{bytes}\t{fault}\n"),
         (None, None) => Ok(()),

@@ -55,12 +55,7 @@ fn fate_of(name: &str, id: Option<VersionId>, ids: &[TableId]) -> Fate {
     }
 }
 
-fn put_name(
-    alloc: Global,
-    out: &mut Others,
-    name: &str,
-    fate: Fate,
-) -> Result<(), AllocError> {
+fn put_name(alloc: Global, out: &mut Others, name: &str, fate: Fate) -> Result<(), AllocError> {
     match fate {
         Fate::Counts => {}
         Fate::Orphan => out.orphans.push(String::from_str(alloc, name)?)?,

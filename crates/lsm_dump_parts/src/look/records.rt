@@ -51,7 +51,10 @@ fn count(record: &Record) -> Writes {
     let ops = record.ops.as_slice();
     Writes {
         count: ops.len(),
-        removals: ops.iter().filter(|(_, op)| !matches!(op, Op::Set(_))).count(),
+        removals: ops
+            .iter()
+            .filter(|(_, op)| !matches!(op, Op::Set(_)))
+            .count(),
         weak: ops.iter().filter(|(_, op)| matches!(op, Op::Weak)).count(),
     }
 }

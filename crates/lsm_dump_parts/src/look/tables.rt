@@ -154,7 +154,10 @@ fn put_table_damage(
     let fault = match (&table.fault, &table.entries) {
         (Some(fault), _) => fault.clone()?,
         (None, Some(entries)) if entries.highest >= LIMIT => {
-            format!(in alloc; "has the sequence number {}, above 2^63 - 1", entries.highest)?
+            format!(in alloc;
+                "has the sequence number {}, above 2^63 - 1",
+                entries.highest
+            )?
         }
         _ => return Ok(()),
     };
@@ -193,7 +196,9 @@ pub(crate) fn put_runs_damage(
     for (first, second) in tables.iter().zip(tables.iter().skip(1)) {
         if let Some((level, run)) = disorder(first, second) {
             let (below, above) = (first.id, second.id);
-            let fault = format!(in alloc; "level {level}, run {run}: table {below} isn't below table {above}")?;
+            let fault = format!(in alloc;
+                "level {level}, run {run}: table {below} isn't below table {above}"
+            )?;
             out.push(Damage::new(alloc, name, fault)?)?;
         }
     }

@@ -4,9 +4,7 @@ ghost use Rattle.lsm_store.specs.World.{Same};
 use crate::look::Damage;
 use crate::shown::Sum;
 use lsm_below::{Error, SeqNo, TableId};
-use lsm_manifest::{
-    NameKind, Recovery, get_current_version, kind_of, recover, version_name,
-};
+use lsm_manifest::{NameKind, Recovery, get_current_version, kind_of, recover, version_name};
 use lsm_store::Store;
 use lsm_versions::VersionId;
 use serde::Serialize;
@@ -48,7 +46,10 @@ fn named_by(alloc: Global, recovery: &Recovery) -> Result<Named, AllocError> {
             for table in named {
                 let stored = Sum(table.checksum);
                 let place = Some(Place { level, run, stored });
-                tables.push(Wanted { id: table.id, place })?;
+                tables.push(Wanted {
+                    id: table.id,
+                    place,
+                })?;
             }
         }
     }
