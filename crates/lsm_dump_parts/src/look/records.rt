@@ -2,7 +2,7 @@
 ghost use Rattle.lsm_store.specs.World.{Same};
 
 use crate::look::Damage;
-use crate::look::reading::read_record;
+use crate::look::reading::{ReadFile, read_record};
 use lsm_below::{Error, SeqNo};
 use lsm_log::{LogName, Record, kind_of, record_name};
 use lsm_model::Op;
@@ -66,14 +66,14 @@ fn look_at_record<S: Store>(
 ) -> Result<RecordLook, Error>
     ensures { S.tells → Same (S.world store.old) (S.world store.new) }
 {
-    let file = read_record(alloc, store, number)?;
-    let (writes, fault) = match file.content {
+    let ReadFile { bytes, content, .. } = read_record(alloc, store, number)?;
+    let (writes, fault) = match content {
         Ok(record) => (Some(count(&record)), None),
         Err(fault) => (None, Some(fault)),
     };
     Ok(RecordLook {
         number,
-        bytes: file.bytes,
+        bytes,
         writes,
         fault,
     })

@@ -2,7 +2,7 @@
 ghost use Rattle.lsm_store.specs.World.{Same};
 
 use crate::look::Damage;
-use crate::look::reading::read_table;
+use crate::look::reading::{ReadFile, read_table};
 use crate::look::version::{Place, Wanted};
 use crate::shown::{ShownBytes, Sum};
 use lsm_below::{Error, Ranged, SeqNo, TableId};
@@ -111,16 +111,20 @@ fn count(alloc: Global, table: &Table) -> Result<Entries, AllocError> {
 fn look_at_table<S: Store>(alloc: Global, store: &mut S, wanted: Wanted) -> Result<TableLook, Error>
     ensures { S.tells → Same (S.world store.old) (S.world store.new) }
 {
-    let file = read_table(alloc, store, wanted.id)?;
-    let (entries, fault) = match file.content {
+    let ReadFile {
+        bytes,
+        sum,
+        content,
+    } = read_table(alloc, store, wanted.id)?;
+    let (entries, fault) = match content {
         Ok(table) => (Some(count(alloc, &table)?), None),
         Err(fault) => (None, Some(fault)),
     };
     Ok(TableLook {
         id: wanted.id,
         place: wanted.place,
-        bytes: file.bytes,
-        sum: file.sum.map(Sum),
+        bytes,
+        sum: sum.map(Sum),
         entries,
         fault,
     })
