@@ -2,11 +2,10 @@
 use std::alloc::{AllocError, Global};
 
 /// What a file is made of in which items follow a front.
-struct Form {
+pub(crate) struct Form {
     letters: &'static str,
-    /// The bytes of the front, whose end tells how many items follow, from this byte on.
+    /// The bytes of the front, which ends with how many items follow.
     front: usize,
-    count_at: usize,
     /// What an item is called, and how many bytes stand between the length of its key and its type.
     item: &'static str,
     gap: usize,
@@ -14,23 +13,26 @@ struct Form {
     otherwise: &'static str,
 }
 
-const TABLE: Form = Form {
+/// A table's file.
+pub(crate) const TABLE: Form = Form {
     letters: "LSMT",
     front: 20,
-    count_at: 12,
     item: "entry",
     gap: 8,
     otherwise: "has no entry, or one that isn't behind the one before it",
 };
 
-const RECORD: Form = Form {
+/// A record's file.
+pub(crate) const RECORD: Form = Form {
     letters: "LSML",
     front: 16,
-    count_at: 12,
     item: "operation",
     gap: 0,
     otherwise: "has a key twice",
 };
+
+/// Where the number of items begins.
+const COUNT_AT: usize = 12;
 
 /// What is wrong with an item.
 enum Broken {
@@ -73,7 +75,7 @@ fn skip_item(bytes: &[u8], gap: usize) -> Result<&[u8], Broken> {
 fn items_fault(alloc: Global, bytes: &[u8], form: &Form) -> Result<String, AllocError> {
     let name = form.item;
     let mut rest = bytes.get(form.front..).unwrap_or_default();
-    for item in 0..little(bytes, form.count_at, form.front) {
+    for item in 0..little(bytes, COUNT_AT, form.front) {
         let at = bytes.len().saturating_sub(rest.len());
         match skip_item(rest, form.gap) {
             Ok(behind) => rest = behind,
@@ -96,7 +98,8 @@ fn items_fault(alloc: Global, bytes: &[u8], form: &Form) -> Result<String, Alloc
     format!(in alloc; "has {count} bytes too many, from byte {at} on")
 }
 
-fn file_fault(alloc: Global, bytes: &[u8], form: &Form) -> Result<String, AllocError> {
+/// What is wrong with the content of a file of this form, which is refused.
+pub(crate) fn file_fault(alloc: Global, bytes: &[u8], form: &Form) -> Result<String, AllocError> {
     let (len, letters) = (bytes.len(), form.letters);
     if len < form.front {
         return format!(in alloc; "is cut: it has {len} bytes");
@@ -105,14 +108,4 @@ fn file_fault(alloc: Global, bytes: &[u8], form: &Form) -> Result<String, AllocE
         return format!(in alloc; "doesn't begin with {letters}");
     }
     items_fault(alloc, bytes, form)
-}
-
-/// What is wrong with the content of a table's file, which is refused.
-pub(crate) fn table_fault(alloc: Global, bytes: &[u8]) -> Result<String, AllocError> {
-    file_fault(alloc, bytes, &TABLE)
-}
-
-/// What is wrong with the content of a record's file, which is refused.
-pub(crate) fn record_fault(alloc: Global, bytes: &[u8]) -> Result<String, AllocError> {
-    file_fault(alloc, bytes, &RECORD)
 }

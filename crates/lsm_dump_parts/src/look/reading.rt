@@ -1,7 +1,7 @@
 // What is asked of a store: names and contents, and nothing that changes it.
 ghost use Rattle.lsm_store.specs.World.{Same};
 
-use crate::flaws::{record_fault, table_fault};
+use crate::flaws::{RECORD, TABLE, file_fault};
 use bytes::Bytes;
 use lsm_below::{Error, SeqNo, TableId, share};
 use lsm_log::{Record, RecordError, decode, record_name};
@@ -63,7 +63,7 @@ fn table_of(alloc: Global, id: TableId, bytes: Bytes) -> Result<ReadFile<Table>,
         Err(TableError::OutOfMemory) => return Err(Error::OutOfMemory),
         Err(TableError::BadTable) => (
             Checksum::of(bytes.as_slice()),
-            Err(table_fault(alloc, bytes.as_slice())?),
+            Err(file_fault(alloc, bytes.as_slice(), &TABLE)?),
         ),
     };
     Ok(ReadFile {
@@ -94,7 +94,7 @@ fn record_of(alloc: Global, number: SeqNo, bytes: Bytes) -> Result<ReadFile<Reco
         Ok(record) if record.number == number => Ok(record),
         Ok(record) => Err(format!(in alloc; "is the record of number {}", record.number)?),
         Err(RecordError::OutOfMemory) => return Err(Error::OutOfMemory),
-        Err(RecordError::BadRecord) => Err(record_fault(alloc, bytes.as_slice())?),
+        Err(RecordError::BadRecord) => Err(file_fault(alloc, bytes.as_slice(), &RECORD)?),
     };
     Ok(ReadFile {
         bytes: len,
