@@ -98,7 +98,7 @@ fn work(rt: &HostRuntime, tree: &mut Logged<FolderStore<HostRuntime>>) -> Result
     remove(alloc, tree, b"plum")?;
     flush(tree)?;
     look(rt, &[FOLDER, "--levels"])?;
-    look(rt, &[FOLDER, "--svg"])?;
+    look(rt, &[FOLDER, "--json"])?;
 
     merge(tree)?;
     look(rt, &[FOLDER, "--levels"])?;
@@ -125,7 +125,7 @@ fn main(rt: HostRuntime) -> Result<()> {
     worked?;
     look(&rt, &[FOLDER, "--check"])?;
     look(&rt, &[FOLDER])?;
-    look(&rt, &[FOLDER, "--svg"])?;
+    look(&rt, &[FOLDER, "--json"])?;
 
     let tree = open(&rt)?;
     let listed = list(&rt, &tree);

@@ -1,6 +1,8 @@
 // A program's arguments, and what those of this one ask.
-use lsm_below::{SeqNo, TableId, parse_number};
-use std::alloc::AllocError;
+use clap::builder::ValueParser;
+use clap::{Arg, ArgAction, ArgMatches, Command, Error, value_parser};
+use lsm_below::{SeqNo, TableId};
+use std::alloc::{AllocError, Global};
 use std::rt::Env;
 use std::{env, io};
 
@@ -38,8 +40,6 @@ pub enum View {
     Check,
     /// The levels, drawn with characters.
     Levels,
-    /// The levels and the log as a picture.
-    Svg,
     /// The entries of a table.
     Table(TableId),
     /// The writes of a record.
@@ -55,248 +55,116 @@ pub struct Plan<'a> {
     pub slice: Slice<'a>,
 }
 
-/// What the program does.
-#[derive(Clone, Copy, Debug, PartialEq, Eq)]
-pub enum Asked<'a> {
-    Help,
-    Show(Plan<'a>),
-}
-
-/// Why arguments ask nothing that the program does.
-#[derive(Clone, Copy, Debug, PartialEq, Eq)]
-pub enum BadArguments<'a> {
-    NoText,
-    NoFolder,
-    /// A second folder is named.
-    SecondFolder(&'a str),
-    /// There is no such option.
-    NoOption(&'a str),
-    /// Nothing stands after this option.
-    NoValue(&'static str),
-    /// What stands after this option is no number.
-    NoNumber(&'static str, &'a str),
-    /// What is shown is chosen twice.
-    TwoViews(&'a str),
-    /// An option of a table stands without a table.
-    NoTable,
-    /// A picture is asked for as JSON.
-    NoObject,
-    /// A key that begins with 0x is no bytes in hex.
-    NoHex,
-}
-
-/// An option that a value follows.
-#[derive(Clone, Copy, PartialEq, Eq)]
-enum Awaited {
-    Table,
-    Record,
-    From,
-    To,
-    Limit,
-}
-
-/// What the words so far ask.
+/// What goes with an option.
 #[derive(Clone, Copy)]
-struct Draft<'a> {
-    folder: Option<&'a str>,
-    view: Option<View>,
-    is_json: bool,
-    slice: Slice<'a>,
-    awaited: Option<Awaited>,
-    is_help: bool,
+enum Company {
+    /// It chooses what is shown, which one option does.
+    View,
+    /// It stands beside `--table`.
+    Table,
+    /// It stands beside all but `--levels`.
+    NoLevels,
 }
 
-const NO_SLICE: Slice<'static> = Slice {
-    from: None,
-    to: None,
-    limit: None,
-};
+/// An option: its name, what stands for its value where one follows it, what goes with it, and its help.
+type Row = (&'static str, Option<&'static str>, Company, &'static str);
 
-const EMPTY: Draft<'static> = Draft {
-    folder: None,
-    view: None,
-    is_json: false,
-    slice: NO_SLICE,
-    awaited: None,
-    is_help: false,
-};
+const OPTIONS: [Row; 8] = [
+    (
+        "check",
+        None,
+        Company::View,
+        "read all that opening reads, and say whether it would open; of each damaged file what is wrong",
+    ),
+    ("table", Some("N"), Company::View, "the entries of tables/N"),
+    (
+        "from",
+        Some("KEY"),
+        Company::Table,
+        "begin at this key; one behind 0x is in hex",
+    ),
+    ("to", Some("KEY"), Company::Table, "end before this key"),
+    (
+        "limit",
+        Some("N"),
+        Company::Table,
+        "end after so many entries",
+    ),
+    ("record", Some("N"), Company::View, "the writes of log/N"),
+    (
+        "levels",
+        None,
+        Company::View,
+        "the levels, drawn with characters",
+    ),
+    ("json", None, Company::NoLevels, "one JSON object"),
+];
 
-fn option_name(awaited: Awaited) -> &'static str {
-    match awaited {
-        Awaited::Table => "--table",
-        Awaited::Record => "--record",
-        Awaited::From => "--from",
-        Awaited::To => "--to",
-        Awaited::Limit => "--limit",
-    }
-}
+/// What stands below the options on the page of `--help`.
+const STATUSES: &str = "\
+Status:
+  0  all was shown; with --check the tree would be opened
+  1  a fault of the folder or the output; no such table or record, or a damaged one; with --check the tree would be refused
+  2  other arguments than these";
 
-fn number_of<'a>(awaited: Awaited, word: &'a str) -> Result<u64, BadArguments<'a>> {
-    match parse_number(word.as_bytes()) {
-        Some(number) => Ok(number),
-        None => Err(BadArguments::NoNumber(option_name(awaited), word)),
-    }
-}
-
-/// The draft with a view, where it has none.
-fn with_view<'a>(
-    draft: Draft<'a>,
-    view: View,
-    word: &'a str,
-) -> Result<Draft<'a>, BadArguments<'a>> {
-    if draft.view.is_some() {
-        return Err(BadArguments::TwoViews(word));
-    }
-    Ok(Draft {
-        view: Some(view),
-        ..draft
-    })
-}
-
-/// The draft with what stands after an option.
-fn with_value<'a>(
-    draft: Draft<'a>,
-    awaited: Awaited,
-    word: &'a str,
-) -> Result<Draft<'a>, BadArguments<'a>> {
-    let draft = Draft {
-        awaited: None,
-        ..draft
+fn option_of<'a>(alloc: Global, row: &Row) -> Result<Arg<'a>, AllocError> {
+    let (name, value, company, help) = *row;
+    let arg = Arg::new(alloc, name).long(name).help(help);
+    let arg = match value {
+        Some("N") => arg.value_name("N").value_parser(value_parser!(u64)),
+        Some(value) => arg.value_name(value).allow_hyphen_values(true),
+        None => arg.action(ArgAction::SetTrue),
     };
-    let slice = draft.slice;
-    match awaited {
-        Awaited::Table => with_view(draft, View::Table(number_of(awaited, word)?), "--table"),
-        Awaited::Record => with_view(draft, View::Record(number_of(awaited, word)?), "--record"),
-        Awaited::From => Ok(with_slice(
-            draft,
-            Slice {
-                from: Some(word),
-                ..slice
-            },
-        )),
-        Awaited::To => Ok(with_slice(
-            draft,
-            Slice {
-                to: Some(word),
-                ..slice
-            },
-        )),
-        Awaited::Limit => {
-            let limit = Some(number_of(awaited, word)?);
-            Ok(with_slice(draft, Slice { limit, ..slice }))
-        }
+    match company {
+        Company::View => arg.group("view"),
+        Company::Table => arg.requires_arg("table"),
+        Company::NoLevels => arg.conflicts_with("levels"),
     }
 }
 
-fn with_slice<'a>(draft: Draft<'a>, slice: Slice<'a>) -> Draft<'a> {
-    Draft { slice, ..draft }
-}
-
-fn awaiting(draft: Draft<'_>, awaited: Awaited) -> Draft<'_> {
-    Draft {
-        awaited: Some(awaited),
-        ..draft
+fn command<'a>(alloc: Global) -> Result<Command<'a>, AllocError> {
+    let folder = Arg::new(alloc, "FOLDER")
+        .required(true)
+        .value_parser(ValueParser::NonEmptyString)
+        .help(
+            "alone: the version, each table, each record of the log, orphans, what is damaged, and totals",
+        );
+    let mut command = Command::new(alloc, "lsm_dump")
+        .no_binary_name(true)
+        .about("Looks into the folder of a tree, writes nothing there, and takes no lock.")
+        .after_help(STATUSES)
+        .arg(folder)?;
+    for row in &OPTIONS {
+        command = command.arg(option_of(alloc, row)?)?;
     }
+    Ok(command)
 }
 
-/// The draft with an option, or with a folder.
-fn with_word<'a>(draft: Draft<'a>, word: &'a str) -> Result<Draft<'a>, BadArguments<'a>> {
-    match word {
-        "--help" | "-h" => Ok(Draft {
-            is_help: true,
-            ..draft
-        }),
-        "--json" => Ok(Draft {
-            is_json: true,
-            ..draft
-        }),
-        "--check" => with_view(draft, View::Check, word),
-        "--levels" => with_view(draft, View::Levels, word),
-        "--svg" => with_view(draft, View::Svg, word),
-        "--table" => Ok(awaiting(draft, Awaited::Table)),
-        "--record" => Ok(awaiting(draft, Awaited::Record)),
-        "--from" => Ok(awaiting(draft, Awaited::From)),
-        "--to" => Ok(awaiting(draft, Awaited::To)),
-        "--limit" => Ok(awaiting(draft, Awaited::Limit)),
-        _ if word.starts_with("-") => Err(BadArguments::NoOption(word)),
-        _ => with_folder(draft, word),
+fn view_of(matches: &ArgMatches<'_>) -> View {
+    if let Some(id) = matches.get_one::<u64>("table") {
+        View::Table(id)
+    } else if let Some(number) = matches.get_one::<u64>("record") {
+        View::Record(number)
+    } else if matches.get_flag("check") {
+        View::Check
+    } else if matches.get_flag("levels") {
+        View::Levels
+    } else {
+        View::Dump
     }
 }
 
-fn with_folder<'a>(draft: Draft<'a>, word: &'a str) -> Result<Draft<'a>, BadArguments<'a>> {
-    if draft.folder.is_some() {
-        return Err(BadArguments::SecondFolder(word));
-    }
-    if word.is_empty() {
-        return Err(BadArguments::NoFolder);
-    }
-    Ok(Draft {
-        folder: Some(word),
-        ..draft
+/// What these arguments ask; the help that they ask for is an error too.
+pub fn parse_arguments<'a>(alloc: Global, words: &'a [String]) -> Result<Plan<'a>, Error> {
+    let matches = command(alloc)?.try_get_matches_from(words)?;
+    Ok(Plan {
+        folder: matches.get_str("FOLDER").unwrap_or_default(),
+        view: view_of(&matches),
+        is_json: matches.get_flag("json"),
+        slice: Slice {
+            from: matches.get_str("from"),
+            to: matches.get_str("to"),
+            limit: matches.get_one::<u64>("limit"),
+        },
     })
-}
-
-/// The first option that doesn't go with the view.
-fn stray_option(draft: &Draft<'_>, view: View) -> Option<BadArguments<'static>> {
-    let is_table = matches!(&view, View::Table(_));
-    if draft.slice != NO_SLICE && !is_table {
-        return Some(BadArguments::NoTable);
-    }
-    if draft.is_json && matches!(&view, View::Levels | View::Svg) {
-        return Some(BadArguments::NoObject);
-    }
-    None
-}
-
-/// What a draft asks.
-fn asked_by<'a>(draft: Draft<'a>) -> Result<Asked<'a>, BadArguments<'a>> {
-    if draft.is_help {
-        return Ok(Asked::Help);
-    }
-    if let Some(awaited) = draft.awaited {
-        return Err(BadArguments::NoValue(option_name(awaited)));
-    }
-    let view = draft.view.unwrap_or(View::Dump);
-    if let Some(bad) = stray_option(&draft, view) {
-        return Err(bad);
-    }
-    match draft.folder {
-        Some(folder) => Ok(Asked::Show(Plan {
-            folder,
-            view,
-            is_json: draft.is_json,
-            slice: draft.slice,
-        })),
-        None => Err(BadArguments::NoFolder),
-    }
-}
-
-/// What these arguments ask.
-pub fn parse_arguments(words: &[String]) -> Result<Asked<'_>, BadArguments<'_>> {
-    let mut draft = EMPTY;
-    for word in words {
-        draft = match draft.awaited {
-            Some(awaited) => with_value(draft, awaited, word.as_str())?,
-            None => with_word(draft, word.as_str())?,
-        };
-    }
-    asked_by(draft)
-}
-
-/// Appends why arguments ask nothing, in words.
-pub fn push_bad(out: &mut String, bad: BadArguments<'_>) -> Result<(), AllocError> {
-    match bad {
-        BadArguments::NoText => out.push_str("an argument is no text"),
-        BadArguments::NoFolder => out.push_str("no folder is named"),
-        BadArguments::SecondFolder(word) => write!(out, "{word}: a second folder is named"),
-        BadArguments::NoOption(word) => write!(out, "{word}: there is no such option"),
-        BadArguments::NoValue(option) => write!(out, "{option}: nothing follows it"),
-        BadArguments::NoNumber(option, word) => write!(out, "{option} {word}: that is no number"),
-        BadArguments::TwoViews(option) => write!(out, "{option}: what is shown is chosen twice"),
-        BadArguments::NoTable => out.push_str("--from, --to and --limit go with --table alone"),
-        BadArguments::NoObject => out.push_str("--json: a picture is no object"),
-        BadArguments::NoHex => out.push_str(
-            "--from, --to: what stands behind 0x is no bytes in hex",
-        ),
-    }
 }

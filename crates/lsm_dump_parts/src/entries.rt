@@ -1,19 +1,12 @@
 // The entries of a table, and the writes of a record.
-ghost use Rattle.lsm_store.specs.World.{Same};
-
 use crate::arguments::Slice;
-use crate::flaws::{Flaw, record_flaw, table_flaw};
-use crate::json::Members;
-use crate::look::content_of;
-use crate::shown::{Cut, push_bytes};
+use crate::shown::ShownBytes;
 use bytes::Bytes;
-use lsm_below::{Error, InternalValue, SeqNo, TableId, UserKey, ValueType, share};
-use lsm_log::{Record, RecordError, decode, record_name};
-use lsm_manifest::table_name;
+use lsm_below::{InternalValue, SeqNo, TableId, UserKey, ValueType};
+use lsm_log::Record;
 use lsm_model::Op;
-use lsm_store::Store;
-use lsm_tables::{Table, TableError};
-use serde_json::Value;
+use lsm_tables::Table;
+use serde::Serialize;
 use std::alloc::{AllocError, Global};
 use std::ops::Bound;
 
@@ -62,165 +55,102 @@ pub fn bounds_of(alloc: Global, slice: &Slice<'_>) -> Result<Option<Bounds>, All
     }
 }
 
-/// What a table's file is read as.
-pub type FoundTable = Result<Table, Flaw>;
-
-fn judge_table(alloc: Global, id: TableId, bytes: Bytes) -> Result<FoundTable, Error> {
-    match Table::recover(alloc, id, share(&bytes)?) {
-        Ok(table) => Ok(Ok(table)),
-        Err(TableError::OutOfMemory) => Err(Error::OutOfMemory),
-        Err(TableError::BadTable) => Ok(Err(table_flaw(bytes.as_slice()))),
-    }
+/// An entry of a table, or a write of a record, which has no number of its own.
+#[derive(Drop, Serialize)]
+pub(crate) struct Row {
+    #[serde(skip_serializing_if = "Option::is_none")]
+    number: Option<SeqNo>,
+    key: ShownBytes,
+    #[serde(rename = "type")]
+    kind: &'static str,
+    #[serde(skip_serializing_if = "Option::is_none")]
+    value: Option<ShownBytes>,
 }
 
-/// The table of this id, or what is wrong with its file. Nothing else is read.
-pub fn find_table<S: Store>(alloc: Global, store: &mut S, id: TableId) -> Result<FoundTable, Error>
-    ensures { S.tells → Same (S.world store.old) (S.world store.new) }
-{
-    let name = table_name(id);
-    match content_of(alloc, store, name.as_str())? {
-        Some(content) => judge_table(alloc, id, Bytes::from_vec(content)?),
-        None => Ok(Err(Flaw::Missing)),
-    }
+/// What is listed.
+#[derive(Drop, Serialize)]
+#[serde(untagged)]
+pub(crate) enum Listing {
+    Table { table: TableId, entries: Vec<Row> },
+    Record { record: SeqNo, writes: Vec<Row> },
 }
 
-/// What a record's file is read as.
-pub type FoundRecord = Result<Record, Flaw>;
-
-fn judge_record(alloc: Global, number: SeqNo, bytes: Bytes) -> Result<FoundRecord, Error> {
-    match decode(alloc, share(&bytes)?) {
-        Ok(record) if record.number == number => Ok(Ok(record)),
-        Ok(record) => Ok(Err(Flaw::Number(record.number))),
-        Err(RecordError::OutOfMemory) => Err(Error::OutOfMemory),
-        Err(RecordError::BadRecord) => Ok(Err(record_flaw(bytes.as_slice()))),
-    }
+fn entry_row(alloc: Global, entry: &InternalValue) -> Result<Row, AllocError> {
+    let (kind, value) = match entry.key.value_type {
+        ValueType::Value => (
+            "value",
+            Some(ShownBytes::new(alloc, entry.value.as_slice())?),
+        ),
+        ValueType::Tombstone => ("tombstone", None),
+        ValueType::WeakTombstone => ("weak tombstone", None),
+    };
+    Ok(Row {
+        number: Some(entry.key.seqno),
+        key: ShownBytes::new(alloc, entry.key.user_key.as_slice())?,
+        kind,
+        value,
+    })
 }
 
-/// The record of this number, or what is wrong with its file. Nothing else is read.
-pub fn find_record<S: Store>(
+/// The entries of a table in the bounds.
+pub(crate) fn list_table(
     alloc: Global,
-    store: &mut S,
-    number: SeqNo,
-) -> Result<FoundRecord, Error>
-    ensures { S.tells → Same (S.world store.old) (S.world store.new) }
-{
-    let name = record_name(number);
-    match content_of(alloc, store, name.as_str())? {
-        Some(content) => judge_record(alloc, number, Bytes::from_vec(content)?),
-        None => Ok(Err(Flaw::Missing)),
+    table: &Table,
+    bounds: &Bounds,
+) -> Result<Listing, AllocError> {
+    let entries = table.range(&bounds.from, &bounds.to).iter();
+    let mut rows = Vec::new(alloc);
+    for entry in entries.take(bounds.limit as usize) {
+        rows.push(entry_row(alloc, entry)?)?;
+    }
+    Ok(Listing::Table {
+        table: table.id(),
+        entries: rows,
+    })
+}
+
+fn write_row(alloc: Global, key: &UserKey, op: &Op) -> Result<Row, AllocError> {
+    let (kind, value) = match op {
+        Op::Set(value) => ("value", Some(ShownBytes::new(alloc, value.as_slice())?)),
+        Op::Del => ("tombstone", None),
+        Op::Weak => ("weak tombstone", None),
+    };
+    Ok(Row {
+        number: None,
+        key: ShownBytes::new(alloc, key.as_slice())?,
+        kind,
+        value,
+    })
+}
+
+/// The writes of a record.
+pub(crate) fn list_record(alloc: Global, record: &Record) -> Result<Listing, AllocError> {
+    let mut writes = Vec::new(alloc);
+    for (key, op) in record.ops.as_slice() {
+        writes.push(write_row(alloc, key, op)?)?;
+    }
+    Ok(Listing::Record {
+        record: record.number,
+        writes,
+    })
+}
+
+fn push_row(out: &mut String, row: &Row) -> Result<(), AllocError> {
+    if let Some(number) = row.number {
+        write!(out, "{number}\t")?;
+    }
+    let (key, kind) = (&row.key, row.kind);
+    match &row.value {
+        Some(value) => write!(out, "{key}\t{value}\n"),
+        None => write!(out, "{key}\t{kind}\n"),
     }
 }
 
-fn kind_name(kind: ValueType) -> &'static str {
-    match kind {
-        ValueType::Value => "value",
-        ValueType::Tombstone => "tombstone",
-        ValueType::WeakTombstone => "weak tombstone",
-    }
-}
-
-/// Appends the line of an entry: its number, its key, and its value or what kind of tombstone it is.
-fn push_entry(out: &mut String, entry: &InternalValue) -> Result<(), AllocError> {
-    let number = entry.key.seqno;
-    write!(out, "{number}  ")?;
-    push_bytes(out, entry.key.user_key.as_slice(), Cut::Long)?;
-    match entry.key.value_type {
-        ValueType::Value => {
-            out.push_str("  ")?;
-            push_bytes(out, entry.value.as_slice(), Cut::Long)?;
-        }
-        kind => {
-            let name = kind_name(kind);
-            write!(out, "  {name}")?;
-        }
-    }
-    out.push('\n')
-}
-
-/// Appends a line for each entry of a table in the bounds.
-pub fn push_table(out: &mut String, table: &Table, bounds: &Bounds) -> Result<(), AllocError> {
-    let mut left = bounds.limit;
-    for entry in table.range(&bounds.from, &bounds.to) {
-        if left == 0 {
-            break;
-        }
-        left = left.saturating_sub(1);
-        push_entry(out, entry)?;
+/// Appends a row for each entry or write: its number, its key, and its value or what kind of tombstone it is.
+pub(crate) fn push_listing(out: &mut String, listing: &Listing) -> Result<(), AllocError> {
+    let (Listing::Table { entries: rows, .. } | Listing::Record { writes: rows, .. }) = listing;
+    for row in rows {
+        push_row(out, row)?;
     }
     Ok(())
-}
-
-fn entry_value(alloc: Global, entry: &InternalValue) -> Result<Value, AllocError> {
-    let mut members = Members::new(alloc);
-    members.number("number", entry.key.seqno)?;
-    members.text("type", kind_name(entry.key.value_type))?;
-    members.bytes("key", entry.key.user_key.as_slice())?;
-    if matches!(entry.key.value_type, ValueType::Value) {
-        members.bytes("value", entry.value.as_slice())?;
-    }
-    Ok(members.into_value())
-}
-
-/// The entries of a table in the bounds, as an object.
-pub fn table_value(alloc: Global, table: &Table, bounds: &Bounds) -> Result<Value, AllocError> {
-    let mut list = Vec::new(alloc);
-    let mut left = bounds.limit;
-    for entry in table.range(&bounds.from, &bounds.to) {
-        if left == 0 {
-            break;
-        }
-        left = left.saturating_sub(1);
-        list.push(entry_value(alloc, entry)?)?;
-    }
-    let mut members = Members::new(alloc);
-    members.number("table", table.id())?;
-    members.put("entries", Value::Array(list))?;
-    Ok(members.into_value())
-}
-
-fn push_write(out: &mut String, key: &UserKey, op: &Op) -> Result<(), AllocError> {
-    push_bytes(out, key.as_slice(), Cut::Long)?;
-    match op {
-        Op::Set(value) => {
-            out.push_str("  ")?;
-            push_bytes(out, value.as_slice(), Cut::Long)?;
-        }
-        Op::Del => out.push_str("  tombstone")?,
-        Op::Weak => out.push_str("  weak tombstone")?,
-    }
-    out.push('\n')
-}
-
-/// Appends a line for each write of a batch.
-pub fn push_record(out: &mut String, record: &Record) -> Result<(), AllocError> {
-    for (key, op) in record.ops.as_slice() {
-        push_write(out, key, op)?;
-    }
-    Ok(())
-}
-
-fn write_value(alloc: Global, key: &UserKey, op: &Op) -> Result<Value, AllocError> {
-    let mut members = Members::new(alloc);
-    members.bytes("key", key.as_slice())?;
-    match op {
-        Op::Set(value) => {
-            members.text("type", "value")?;
-            members.bytes("value", value.as_slice())?;
-        }
-        Op::Del => members.text("type", "tombstone")?,
-        Op::Weak => members.text("type", "weak tombstone")?,
-    }
-    Ok(members.into_value())
-}
-
-/// The writes of a batch, as an object.
-pub fn record_value(alloc: Global, record: &Record) -> Result<Value, AllocError> {
-    let mut list = Vec::new(alloc);
-    for (key, op) in record.ops.as_slice() {
-        list.push(write_value(alloc, key, op)?)?;
-    }
-    let mut members = Members::new(alloc);
-    members.number("record", record.number)?;
-    members.put("writes", Value::Array(list))?;
-    Ok(members.into_value())
 }

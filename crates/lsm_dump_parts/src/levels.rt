@@ -1,18 +1,10 @@
 // The levels, drawn with characters: a line for each run, on which its tables stand by their keys.
 use crate::look::{Look, TableLook};
-use crate::rows::{bytes_of, count_damaged, place_of, runs_of};
-use crate::shown::{Cut, push_bytes};
-use crate::span::KeySpan;
+use crate::shown::ShownBytes;
 use std::alloc::{AllocError, Global};
 
 /// How many characters a line has for keys.
 const COLUMNS: usize = 72;
-
-fn set(line: &mut [u8], at: usize, byte: u8) {
-    if let Some(place) = line.get_mut(at) {
-        *place = byte;
-    }
-}
 
 /// A run as it is drawn.
 #[derive(Drop)]
@@ -28,11 +20,22 @@ pub struct DrawnRun<'a> {
     pub damaged: usize,
 }
 
+/// Where a first or a last key stands on a line, at even distances: `keys` are those of all tables, rising, each once.
+fn column_of(keys: &[&[u8]], key: &[u8]) -> usize {
+    let place = keys.partition_point(|other| *other < key);
+    let distances = keys.len().saturating_sub(1);
+    let product = place.saturating_mul(COLUMNS - 1);
+    product.checked_div(distances).unwrap_or(0)
+}
+
+fn set(line: &mut [u8], at: usize, byte: u8) {
+    if let Some(place) = line.get_mut(at) {
+        *place = byte;
+    }
+}
+
 /// Draws a table: `[==]` from its first key to its last one, `|` where both stand at one character.
-fn draw(line: &mut [u8], span: &KeySpan<'_>, first: &[u8], last: &[u8]) {
-    let steps = COLUMNS.saturating_sub(1) as u64;
-    let from = span.step(first, steps) as usize;
-    let to = span.step(last, steps) as usize;
+fn draw(line: &mut [u8], from: usize, to: usize) {
     if from == to {
         set(line, from, b'|');
         return;
@@ -44,26 +47,17 @@ fn draw(line: &mut [u8], span: &KeySpan<'_>, first: &[u8], last: &[u8]) {
     set(line, to, b']');
 }
 
-/// The line of a run.
-fn line_of(alloc: Global, span: &KeySpan<'_>, run: &DrawnRun<'_>) -> Result<String, AllocError> {
-    let mut line = vec![in alloc; b' '; COLUMNS]?;
-    for (first, last) in &run.spans {
-        draw(&mut line, span, first, last);
-    }
-    let mut text = String::new(alloc);
-    for byte in &line {
-        text.push(char::from(*byte))?;
-    }
-    Ok(text)
-}
-
 fn push_run(
     alloc: Global,
     out: &mut String,
-    span: &KeySpan<'_>,
+    keys: &[&[u8]],
     run: &DrawnRun<'_>,
 ) -> Result<(), AllocError> {
-    let line = line_of(alloc, span, run)?;
+    let mut line = vec![in alloc; b' '; COLUMNS]?;
+    for (first, last) in &run.spans {
+        draw(&mut line, column_of(keys, first), column_of(keys, last));
+    }
+    let line = str::from_utf8(&line).unwrap_or_default();
     let (level, place, tables, bytes) = (run.level, run.place, run.tables, run.bytes);
     write!(
         out,
@@ -76,15 +70,12 @@ fn push_run(
 }
 
 /// Appends the keys at both ends.
-fn push_ends(out: &mut String, span: &KeySpan<'_>) -> Result<(), AllocError> {
-    let Some((low, high)) = span.ends() else {
+fn push_ends(alloc: Global, out: &mut String, keys: &[&[u8]]) -> Result<(), AllocError> {
+    let (Some(low), Some(high)) = (keys.first(), keys.last()) else {
         return Ok(());
     };
-    out.push_str("keys    ")?;
-    push_bytes(out, low, Cut::Long)?;
-    out.push_str(" .. ")?;
-    push_bytes(out, high, Cut::Long)?;
-    out.push('\n')
+    let (low, high) = (ShownBytes::new(alloc, low)?, ShownBytes::new(alloc, high)?);
+    write!(out, "keys    {low} .. {high}\n")
 }
 
 /// Appends a line for each run, and one with the keys at both ends.
@@ -96,37 +87,54 @@ pub fn push_runs(alloc: Global, out: &mut String, runs: &[DrawnRun<'_>]) -> Resu
             keys.push(*last)?;
         }
     }
-    let span = KeySpan::new(keys);
+    keys.sort_unstable();
+    keys.dedup();
     for run in runs {
-        push_run(alloc, out, &span, run)?;
+        push_run(alloc, out, &keys, run)?;
     }
-    push_ends(out, &span)
+    push_ends(alloc, out, &keys)
 }
 
-/// The run that was looked at.
-fn drawn_run<'a>(alloc: Global, run: &'a [TableLook]) -> Result<DrawnRun<'a>, AllocError> {
-    let (level, place) = place_of(run);
-    let mut spans = Vec::with_capacity(alloc, run.len())?;
-    for table in run {
-        if let Some(entries) = table.whole() {
-            spans.push((entries.first.as_slice(), entries.last.as_slice()))?;
-        }
+/// The last run, or a new one of this place behind it.
+fn run_at<'r, 'a>(
+    runs: &'r mut Vec<DrawnRun<'a>>,
+    level: usize,
+    place: usize,
+) -> Result<Option<&'r mut DrawnRun<'a>>, AllocError> {
+    if !matches!(runs.last(), Some(run) if run.level == level && run.place == place) {
+        let alloc = *runs.allocator();
+        runs.push(DrawnRun {
+            level,
+            place,
+            spans: Vec::new(alloc),
+            tables: 0,
+            bytes: 0,
+            damaged: 0,
+        })?;
     }
-    Ok(DrawnRun {
-        level,
-        place,
-        spans,
-        tables: run.len(),
-        bytes: bytes_of(run),
-        damaged: count_damaged(run),
-    })
+    Ok(runs.last_mut())
+}
+
+/// Appends a table to a run.
+fn put_table<'a>(run: &mut DrawnRun<'a>, table: &'a TableLook) -> Result<(), AllocError> {
+    run.tables = run.tables.saturating_add(1);
+    run.bytes = run.bytes.saturating_add(table.bytes);
+    match table.whole() {
+        Some(entries) => run.spans.push((&entries.first.0, &entries.last.0))?,
+        None => run.damaged = run.damaged.saturating_add(1),
+    }
+    Ok(())
 }
 
 /// Appends a line for each run, and one for the log.
 pub(crate) fn push_levels(alloc: Global, out: &mut String, look: &Look) -> Result<(), AllocError> {
     let mut runs = Vec::new(alloc);
-    for run in runs_of(look)? {
-        runs.push(drawn_run(alloc, run)?)?;
+    for table in &look.tables {
+        if let Some((level, place)) = table.run()
+            && let Some(run) = run_at(&mut runs, level, place)?
+        {
+            put_table(run, table)?;
+        }
     }
     push_runs(alloc, out, &runs)?;
     let (records, passed, from) = (look.records.len(), look.passed.len(), look.log_from);

@@ -1,52 +1,71 @@
 // What a store holds of a tree and its log, each file looked at once, also after the first one that is damaged.
-ghost use Rattle.std.specs.Prelude.{◌≤◌, length};
 ghost use Rattle.lsm_store.specs.World.{Same};
 
-mod damage;
 mod others;
 mod reading;
 mod records;
 mod tables;
 mod version;
 
-pub use damage::Damage;
+use crate::totals::{Totals, totals_of};
 use lsm_below::{Error, SeqNo};
 use lsm_manifest::version_name;
 use lsm_store::Store;
 use lsm_versions::VersionId;
-pub use others::Others;
-use others::{put_names_damage, sort_names};
-pub(crate) use reading::content_of;
+use others::sort_names;
 use reading::names_of;
+pub(crate) use reading::{read_record, read_table};
 pub use records::{RecordLook, Writes};
 use records::{look_at_records, numbers_among, put_records_damage};
+use serde::Serialize;
 use std::alloc::{AllocError, Global};
-pub use tables::{Content, Entries, TableLook};
+pub use tables::{Entries, Key, TableLook};
 use tables::{look_at_tables, put_runs_damage, put_tables_damage};
-pub use version::Wanted;
+pub use version::Place;
 use version::{Named, look_at_version};
 
+/// A file that is damaged, and one thing that is wrong with it.
+#[derive(Drop, Serialize)]
+pub struct Damage {
+    pub file: String,
+    pub fault: String,
+}
+
+impl Damage {
+    pub(crate) fn new(alloc: Global, name: &str, fault: String) -> Result<Damage, AllocError> {
+        Ok(Damage {
+            file: String::from_str(alloc, name)?,
+            fault,
+        })
+    }
+}
+
 /// What a store holds of a tree and its log.
-#[derive(Drop)]
+#[derive(Drop, Serialize)]
 pub struct Look {
+    /// The version that `current` names, None where it isn't read.
+    #[serde(skip_serializing_if = "Option::is_none")]
+    pub version: Option<VersionId>,
+    /// The format of its file: 4 tells from which number the log is read, 3 doesn't.
+    #[serde(skip_serializing_if = "Option::is_none")]
+    pub format: Option<u8>,
     /// Whether there is no `current`: opening makes a new tree.
     pub is_new: bool,
-    /// The version that `current` names, None where it isn't read.
-    pub version: Option<VersionId>,
     /// From which number the log is read.
     pub log_from: SeqNo,
-    /// Whether the version's file tells that number, and so is of format 4.
-    pub tells_from: bool,
     /// The tables, in the order of the levels. Where no version is read, those whose files are there.
     pub tables: Vec<TableLook>,
-    /// The numbers of the records below that number, which opening doesn't read.
-    pub passed: Vec<SeqNo>,
-    /// The records from it on.
+    /// The records from `log_from` on.
     pub records: Vec<RecordLook>,
-    /// The other names.
-    pub others: Others,
+    /// The numbers of the records below it, which opening doesn't read.
+    pub passed: Vec<SeqNo>,
+    /// Files of versions and tables that the version doesn't name. Opening removes them.
+    pub orphans: Vec<String>,
+    /// Names that are none of a tree's, which opening leaves alone.
+    pub others: Vec<String>,
     /// What is wrong, in the order in which opening looks.
-    pub damage: Vec<Damage>,
+    pub faults: Vec<Damage>,
+    pub total: Totals,
 }
 
 /// The number after all that whole tables hold, 0 where there is none.
@@ -69,38 +88,7 @@ fn log_from(named: &Named, tables: &[TableLook]) -> SeqNo {
     }
 }
 
-/// How many of the numbers, which rise, are below this one.
-fn count_below(numbers: &[SeqNo], from: SeqNo) -> usize
-    ensures { result ≤ length numbers.now }
-{
-    for (place, number) in numbers.iter().enumerate() {
-        if *number >= from {
-            return place;
-        }
-    }
-    numbers.len()
-}
-
-/// All that is wrong, after what is wrong with `current` and the file that it names.
-fn all_damage(
-    alloc: Global,
-    names: &[String],
-    named: &mut Named,
-    tables: &[TableLook],
-    records: &[RecordLook],
-) -> Result<Vec<Damage>, AllocError> {
-    let mut damage = Vec::new(alloc);
-    put_names_damage(alloc, &mut damage, names)?;
-    damage.append(&mut named.damage)?;
-    put_tables_damage(alloc, &mut damage, tables)?;
-    if let Some(id) = named.id {
-        put_runs_damage(alloc, &mut damage, version_name(id).as_str(), tables)?;
-    }
-    put_records_damage(alloc, &mut damage, records)?;
-    Ok(damage)
-}
-
-/// Looks at the log.
+/// Looks at the log: the numbers below this one, and the records from it on.
 fn look_at_log<S: Store>(
     alloc: Global,
     store: &mut S,
@@ -110,10 +98,25 @@ fn look_at_log<S: Store>(
     ensures { S.tells → Same (S.world store.old) (S.world store.new) }
 {
     let mut numbers = numbers_among(alloc, names)?;
-    let below = count_below(&numbers, from);
-    let records = look_at_records(alloc, store, numbers.split_at(below).1)?;
+    let below = numbers.partition_point(|number| *number < from);
+    let records = look_at_records(alloc, store, numbers.get(below..).unwrap_or_default())?;
     numbers.truncate(below);
     Ok((numbers, records))
+}
+
+/// All that is wrong, after what is wrong with names, and with `current` and the file that it names.
+fn put_damage(
+    alloc: Global,
+    damage: &mut Vec<Damage>,
+    id: Option<VersionId>,
+    tables: &[TableLook],
+    records: &[RecordLook],
+) -> Result<(), AllocError> {
+    put_tables_damage(alloc, damage, tables)?;
+    if let Some(id) = id {
+        put_runs_damage(alloc, damage, version_name(id).as_str(), tables)?;
+    }
+    put_records_damage(alloc, damage, records)
 }
 
 /// Looks at the tables, and at the log.
@@ -122,26 +125,30 @@ fn look_behind<S: Store>(
     alloc: Global,
     store: &mut S,
     names: &[String],
-    named: Named,
+    mut named: Named,
 ) -> Result<Look, Error>
     ensures { S.tells → Same (S.world store.old) (S.world store.new) }
 {
-    let mut named = named;
     let tables = look_at_tables(alloc, store, &named.tables)?;
     let log_from = log_from(&named, &tables);
     let (passed, records) = look_at_log(alloc, store, names, log_from)?;
-    let damage = all_damage(alloc, names, &mut named, &tables, &records)?;
-    let others = sort_names(alloc, names, named.id, &named.tables)?;
+    let mut others = sort_names(alloc, names, &named)?;
+    others.damage.append(&mut named.damage)?;
+    put_damage(alloc, &mut others.damage, named.id, &tables, &records)?;
     Ok(Look {
-        is_new: named.is_new,
         version: named.id,
+        format: named
+            .id
+            .map(|_| if named.log_from.is_some() { 4 } else { 3 }),
+        is_new: named.is_new,
         log_from,
-        tells_from: named.log_from.is_some(),
+        total: totals_of(&tables, &records),
         tables,
-        passed,
         records,
-        others,
-        damage,
+        passed,
+        orphans: others.orphans,
+        others: others.foreign,
+        faults: others.damage,
     })
 }
 
@@ -154,7 +161,7 @@ fn look_listed<S: Store>(alloc: Global, store: &mut S, names: &[String]) -> Resu
 }
 
 /// What a store holds of a tree and its log. Each file that counts is read once, and one of them is in memory at a time;
-/// `current` and the version's file are read again where one of them is damaged. It changes nothing.
+/// `current` is read again where it or the version's file is damaged. It changes nothing.
 ///
 /// # Errors
 ///

@@ -1,19 +1,16 @@
 // The run of the program.
-use crate::arguments::{Asked, BadArguments, Plan, View, parse_arguments, push_bad};
-use crate::entries::{
-    Bounds, bounds_of, find_record, find_table, push_record, push_table, record_value, table_value,
-};
-use crate::flaws::{Flaw, flaw_words};
+use crate::arguments::{Plan, View, parse_arguments};
+use crate::entries::{Bounds, Listing, bounds_of, list_record, list_table, push_listing};
 use crate::folder::FolderView;
-use crate::json::{look_value, verdict_value};
 use crate::levels::push_levels;
-use crate::look::{Damage, Look, look_into};
-use crate::svg::push_svg;
-use crate::text::{push_damage, push_look, push_verdict};
+use crate::look::{Damage, Look, look_into, read_record, read_table};
+use crate::text::{push_damage, push_look};
 use crate::verdict::judge;
 use lsm_below::Error;
+use lsm_log::record_name;
+use lsm_manifest::table_name;
 use lsm_store::Store;
-use serde_json::Value;
+use serde::Serialize;
 use std::alloc::{AllocError, Global};
 use std::fs::{File, Files};
 use std::io::Write;
@@ -24,32 +21,6 @@ const FAULT: u8 = 1;
 
 const USAGE: u8 = 2;
 
-/// What `--help` prints.
-const HELP: &str = "\
-usage: lsm_dump FOLDER [--json]
-       lsm_dump FOLDER --check [--json]
-       lsm_dump FOLDER --table N [--from KEY] [--to KEY] [--limit N] [--json]
-       lsm_dump FOLDER --record N [--json]
-       lsm_dump FOLDER --levels | --svg
-       lsm_dump --help
-
-It looks into the folder of a tree, writes nothing there, and takes no lock.
-
-  FOLDER      the version, each table, each record of the log, orphans, what is damaged, and totals.
-              A folder whose name begins with - is given as ./-name
-  --check     reads all that opening reads, and says whether it would open; of each damaged file what is wrong
-  --table N   the entries of tables/N, from the key KEY on and below the other one; a key behind 0x is in hex
-  --record N  the writes of log/N
-  --levels    the levels, drawn with characters
-  --svg       the levels and the log as a picture
-  --json      one JSON object
-
-Status:
-  0  all was shown; with --check the tree would be opened
-  1  a fault of the folder or the output; no such table or record, or a damaged one; with --check the tree would be refused
-  2  other arguments than these
-";
-
 /// What came of a look: what is printed, and whether nothing is wrong.
 #[derive(Drop)]
 pub struct Shown {
@@ -57,108 +28,101 @@ pub struct Shown {
     pub is_good: bool,
 }
 
-fn good(text: String) -> Shown {
-    Shown {
-        text,
-        is_good: true,
-    }
+/// Whether a tree would be opened, the number and the name of the error that refuses it, and what is wrong.
+#[derive(Drop, Serialize)]
+struct Verdict {
+    opens: bool,
+    #[serde(skip_serializing_if = "Option::is_none")]
+    error: Option<u8>,
+    #[serde(skip_serializing_if = "Option::is_none")]
+    name: Option<&'static str>,
+    faults: Vec<Damage>,
 }
 
-fn object_text(alloc: Global, value: &Value) -> Result<String, AllocError> {
-    let mut text = value.to_string(alloc)?;
+/// A line of one object.
+fn object_text<T: Serialize>(alloc: Global, value: &T) -> Result<String, Error> {
+    let Ok(mut text) = serde_json::to_string(alloc, value) else {
+        return Err(Error::OutOfMemory);
+    };
     text.push('\n')?;
     Ok(text)
 }
 
 /// The text of a look, by what is shown of it.
-fn look_text(alloc: Global, found: &Look, view: View, is_json: bool) -> Result<String, AllocError> {
-    if is_json {
-        return object_text(alloc, &look_value(alloc, found)?);
+fn look_text(alloc: Global, found: &Look, plan: &Plan<'_>) -> Result<String, Error> {
+    if plan.is_json {
+        return object_text(alloc, found);
     }
     let mut text = String::new(alloc);
-    match view {
+    match plan.view {
         View::Levels => push_levels(alloc, &mut text, found)?,
-        View::Svg => push_svg(alloc, &mut text, found)?,
         _ => push_look(alloc, &mut text, found)?,
     }
     Ok(text)
 }
 
-/// The text of a verdict, after what is wrong.
-fn check_text(
-    alloc: Global,
-    verdict: &Result<(), Error>,
-    damage: &[Damage],
-    is_json: bool,
-) -> Result<String, AllocError> {
-    if is_json {
-        return object_text(alloc, &verdict_value(alloc, verdict, damage)?);
+/// The verdict on a store. Files are read again only where it wouldn't be opened.
+fn verdict_of<S: Store>(alloc: Global, store: &mut S) -> Result<Verdict, Error> {
+    match judge(alloc, store) {
+        Ok(()) => Ok(Verdict {
+            opens: true,
+            error: None,
+            name: None,
+            faults: Vec::new(alloc),
+        }),
+        Err(Error::OutOfMemory) => Err(Error::OutOfMemory),
+        Err(Error::Store) => Err(Error::Store),
+        Err(error) => Ok(Verdict {
+            opens: false,
+            error: Some(error.number()),
+            name: Some(error.name()),
+            faults: look_into(alloc, store)?.faults,
+        }),
     }
-    let mut text = String::new(alloc);
-    push_damage(&mut text, damage)?;
-    push_verdict(&mut text, verdict)?;
-    Ok(text)
 }
 
-/// Whether a tree would be opened, and of each damaged file what is wrong. Files are read again only where it wouldn't.
+/// Appends what is wrong, and what opening would answer.
+fn push_verdict(out: &mut String, verdict: &Verdict) -> Result<(), AllocError> {
+    push_damage(out, &verdict.faults)?;
+    match (verdict.error, verdict.name) {
+        (Some(number), Some(name)) => write!(out, "refused: error {number} {name}\n"),
+        _ => out.push_str("opens\n"),
+    }
+}
+
 fn check<S: Store>(alloc: Global, store: &mut S, is_json: bool) -> Result<Shown, Error> {
-    let verdict = judge(alloc, store);
-    let damage = match &verdict {
-        Ok(()) => Vec::new(alloc),
-        Err(Error::OutOfMemory) => return Err(Error::OutOfMemory),
-        Err(Error::Store) => return Err(Error::Store),
-        Err(_) => look_into(alloc, store)?.damage,
+    let verdict = verdict_of(alloc, store)?;
+    let text = if is_json {
+        object_text(alloc, &verdict)?
+    } else {
+        let mut text = String::new(alloc);
+        push_verdict(&mut text, &verdict)?;
+        text
     };
     Ok(Shown {
-        text: check_text(alloc, &verdict, &damage, is_json)?,
-        is_good: verdict.is_ok(),
+        text,
+        is_good: verdict.opens,
     })
 }
 
-/// The text of what is wrong with a file that was asked for.
-fn bad_text(alloc: Global, folder: &str, number: u64, flaw: Flaw) -> Result<Shown, Error> {
-    let words = flaw_words(alloc, flaw)?;
-    Ok(Shown {
-        text: format!(in alloc; "{folder}/{number}: {words}\n")?,
-        is_good: false,
-    })
-}
-
-fn show_table<S: Store>(
+/// What is listed, or what is wrong with the file of this name.
+fn show_listing(
     alloc: Global,
-    store: &mut S,
-    id: u64,
-    bounds: &Bounds,
+    name: &str,
+    listing: Result<Listing, String>,
     is_json: bool,
 ) -> Result<Shown, Error> {
-    let table = match find_table(alloc, store, id)? {
-        Ok(table) => table,
-        Err(flaw) => return bad_text(alloc, "tables", id, flaw),
+    let is_good = listing.is_ok();
+    let text = match listing {
+        Ok(listing) if is_json => object_text(alloc, &listing)?,
+        Ok(listing) => {
+            let mut text = String::new(alloc);
+            push_listing(&mut text, &listing)?;
+            text
+        }
+        Err(fault) => format!(in alloc; "{name}: {fault}\n")?,
     };
-    if is_json {
-        return Ok(good(object_text(alloc, &table_value(alloc, &table, bounds)?)?));
-    }
-    let mut text = String::new(alloc);
-    push_table(&mut text, &table, bounds)?;
-    Ok(good(text))
-}
-
-fn show_record<S: Store>(
-    alloc: Global,
-    store: &mut S,
-    number: u64,
-    is_json: bool,
-) -> Result<Shown, Error> {
-    let record = match find_record(alloc, store, number)? {
-        Ok(record) => record,
-        Err(flaw) => return bad_text(alloc, "log", number, flaw),
-    };
-    if is_json {
-        return Ok(good(object_text(alloc, &record_value(alloc, &record)?)?));
-    }
-    let mut text = String::new(alloc);
-    push_record(&mut text, &record)?;
-    Ok(good(text))
+    Ok(Shown { text, is_good })
 }
 
 /// What a plan shows of a store. Nothing of the store is changed.
@@ -174,23 +138,30 @@ pub fn show<S: Store>(
 ) -> Result<Shown, Error> {
     match plan.view {
         View::Check => check(alloc, store, plan.is_json),
-        View::Table(id) => show_table(alloc, store, id, bounds, plan.is_json),
-        View::Record(number) => show_record(alloc, store, number, plan.is_json),
-        View::Dump | View::Levels | View::Svg => {
-            let found = look_into(alloc, store)?;
-            Ok(good(look_text(alloc, &found, plan.view, plan.is_json)?))
+        View::Table(id) => {
+            let listing = match read_table(alloc, store, id)?.content {
+                Ok(table) => Ok(list_table(alloc, &table, bounds)?),
+                Err(fault) => Err(fault),
+            };
+            show_listing(alloc, table_name(id).as_str(), listing, plan.is_json)
         }
+        View::Record(number) => {
+            let listing = match read_record(alloc, store, number)?.content {
+                Ok(record) => Ok(list_record(alloc, &record)?),
+                Err(fault) => Err(fault),
+            };
+            show_listing(alloc, record_name(number).as_str(), listing, plan.is_json)
+        }
+        View::Dump | View::Levels => Ok(Shown {
+            text: look_text(alloc, &look_into(alloc, store)?, plan)?,
+            is_good: true,
+        }),
     }
 }
 
 /// Says why the arguments ask nothing.
-fn tell_usage<E: Write>(alloc: Global, errors: &mut E, bad: BadArguments<'_>) -> u8 {
-    let mut words = String::new(alloc);
-    let _ = push_bad(&mut words, bad);
-    let _ = write!(
-        errors,
-        "lsm_dump: {words}\nusage: lsm_dump FOLDER [--json | --check | --table N | --record N | --levels | --svg]; --help says more\n"
-    );
+fn tell_usage<E: Write>(errors: &mut E, why: &str) -> u8 {
+    let _ = write!(errors, "lsm_dump: {why}; --help tells more\n");
     USAGE
 }
 
@@ -228,7 +199,7 @@ where
 {
     let bounds = match bounds_of(alloc, &plan.slice) {
         Ok(Some(bounds)) => bounds,
-        Ok(None) => return tell_usage(alloc, errors, BadArguments::NoHex),
+        Ok(None) => return tell_usage(errors, "what stands behind 0x is no bytes in hex"),
         Err(_) => return FAULT,
     };
     let Ok(mut store) = FolderView::new(rt, alloc, plan.folder) else {
@@ -258,11 +229,17 @@ where
     E: Write,
 {
     let Some(words) = arguments else {
-        return tell_usage(alloc, errors, BadArguments::NoText);
+        return tell_usage(errors, "an argument is no text");
     };
-    match parse_arguments(words) {
-        Ok(Asked::Help) => print(output, HELP, SUCCESS),
-        Ok(Asked::Show(plan)) => show_folder(rt, alloc, &plan, output, errors),
-        Err(bad) => tell_usage(alloc, errors, bad),
+    match parse_arguments(alloc, words) {
+        Ok(plan) => show_folder(rt, alloc, &plan, output, errors),
+        Err(told) if told.use_stderr() => {
+            let _ = write!(errors, "{told}");
+            USAGE
+        }
+        Err(help) => match write!(output, "{help}") {
+            Ok(()) => SUCCESS,
+            Err(_) => FAULT,
+        },
     }
 }

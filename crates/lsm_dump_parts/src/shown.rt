@@ -1,82 +1,64 @@
-// Bytes as they are printed: as text where they are printable, else as hex, and cut where they are long.
+// Bytes and sums as they are shown.
 use lsm_tables::Checksum;
+use serde::{Described, Serialize, Serializer};
 use std::alloc::{AllocError, Global};
+use std::fmt;
 
-/// How many bytes are shown at most.
+/// How many bytes a text shows at most.
 const MOST: usize = 24;
 
-/// How much of bytes is shown.
-#[derive(Clone, Copy, Debug, PartialEq, Eq)]
-pub enum Cut {
-    /// The first ones.
-    Long,
-    /// All of them.
-    Never,
+/// Bytes as they are shown: as text where each is printable ASCII, else in hex. Printed, they are cut past 24.
+#[derive(Drop, Serialize)]
+#[serde(rename_all = "lowercase")]
+pub enum ShownBytes {
+    Text(String),
+    Hex(String),
 }
 
-/// Whether each of the bytes is a letter, a digit, a mark or a space of ASCII.
-pub fn are_printable(bytes: &[u8]) -> bool {
-    bytes.iter().all(|byte| 32 <= *byte && *byte <= 126)
-}
-
-fn push_text(out: &mut String, bytes: &[u8]) -> Result<(), AllocError> {
-    out.push('"')?;
-    for byte in bytes {
-        if *byte == b'"' || *byte == b'\\' {
-            out.push('\\')?;
+impl ShownBytes {
+    pub fn new(alloc: Global, bytes: &[u8]) -> Result<ShownBytes, AllocError> {
+        match str::from_utf8(bytes) {
+            Ok(text) if bytes.iter().all(|byte| matches!(byte, 32..=126)) => {
+                Ok(ShownBytes::Text(String::from_str(alloc, text)?))
+            }
+            _ => Ok(ShownBytes::Hex(hex::encode(alloc, bytes)?)),
         }
-        out.push(char::from(*byte))?;
-    }
-    out.push('"')
-}
-
-fn push_hex(out: &mut String, bytes: &[u8]) -> Result<(), AllocError> {
-    out.push_str("0x")?;
-    for byte in bytes {
-        write!(out, "{byte:02x}")?;
-    }
-    Ok(())
-}
-
-fn shown_part(bytes: &[u8], cut: Cut) -> &[u8] {
-    match cut {
-        Cut::Long if bytes.len() > MOST => bytes.split_at(MOST).0,
-        _ => bytes,
     }
 }
 
-/// Appends bytes as they are printed.
-pub fn push_bytes(out: &mut String, bytes: &[u8], cut: Cut) -> Result<(), AllocError> {
-    let shown = shown_part(bytes, cut);
-    if are_printable(bytes) {
-        push_text(out, shown)?;
-    } else {
-        push_hex(out, shown)?;
+impl fmt::Display for ShownBytes {
+    fn fmt<W: fmt::Write>(&self, f: &mut fmt::Formatter<W>) -> fmt::Result {
+        let (text, most) = match self {
+            ShownBytes::Text(text) => (text.as_str(), MOST),
+            ShownBytes::Hex(digits) => (digits.as_str(), 2 * MOST),
+        };
+        let shown = text.get(..most).unwrap_or(text);
+        match self {
+            ShownBytes::Text(_) => write!(f, "{shown:?}")?,
+            ShownBytes::Hex(_) => write!(f, "0x{shown}")?,
+        }
+        if shown.len() < text.len() {
+            write!(f, "..({})", text.len() / (most / MOST))?;
+        }
+        Ok(())
     }
-    let len = bytes.len();
-    if shown.len() < len {
-        write!(out, "..({len})")?;
-    }
-    Ok(())
 }
 
-/// Bytes as they are printed.
-pub fn bytes_shown(alloc: Global, bytes: &[u8], cut: Cut) -> Result<String, AllocError> {
-    let mut out = String::new(alloc);
-    push_bytes(&mut out, bytes, cut)?;
-    Ok(out)
-}
+/// A checksum as it is shown: in hex, its bytes in the order in which they stand in a file.
+#[derive(Clone, Copy, PartialEq, Eq)]
+pub struct Sum(pub Checksum);
 
-/// Bytes in hex.
-pub fn hex_of(alloc: Global, bytes: &[u8]) -> Result<String, AllocError> {
-    let mut out = String::new(alloc);
-    for byte in bytes {
-        write!(out, "{byte:02x}")?;
+impl fmt::Display for Sum {
+    fn fmt<W: fmt::Write>(&self, f: &mut fmt::Formatter<W>) -> fmt::Result {
+        let digits = self.0.into_u128().swap_bytes();
+        write!(f, "{digits:032x}")
     }
-    Ok(out)
 }
 
-/// A checksum in hex, as it stands in a file.
-pub fn sum_shown(alloc: Global, sum: Checksum) -> Result<String, AllocError> {
-    hex_of(alloc, &sum.into_u128().to_le_bytes())
+impl Described for Sum {}
+
+impl Serialize for Sum {
+    fn serialize<S: Serializer>(&self, out: &mut S) -> Result<(), S::Error> {
+        out.collect_str(self)
+    }
 }

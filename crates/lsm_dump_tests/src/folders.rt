@@ -54,7 +54,7 @@ fn a_folder_is_read(rt: HostRuntime) -> Result<(), Fail> {
     let before = count_names(&rt, FOLDER)?;
     assert_eq!(rt; ends(&rt, alloc, &[FOLDER])?, (0, false, true));
     assert_eq!(rt; ends(&rt, alloc, &[FOLDER, "--check"])?, (0, false, true));
-    assert_eq!(rt; ends(&rt, alloc, &["--svg", FOLDER])?, (0, false, true));
+    assert_eq!(rt; ends(&rt, alloc, &["--json", FOLDER])?, (0, false, true));
     assert_eq!(rt;
         ends(&rt, alloc, &[FOLDER, "--table", "9"])?,
         (1, false, true)
@@ -75,7 +75,7 @@ fn arguments_are_refused(rt: HostRuntime) -> Result<(), Fail> {
         (&["a", "--table", "x"], 2),
         (&["a", "--table", "1", "--record", "1"], 2),
         (&["a", "--from", "k"], 2),
-        (&["a", "--svg", "--json"], 2),
+        (&["a", "--levels", "--json"], 2),
         (&["a", "--table", "1", "--from", "0x0"], 2),
         (&[""], 2),
         (&["lsm_dump_absent"], 1),

@@ -2,7 +2,7 @@
 //!
 //! | Module | Tests |
 //! |-|-|
-//! | `verdicts` | each cut and each changed byte of each file, with sums as they are and made again, and names beside them |
+//! | `verdicts` | each cut and each changed byte of each file, most with sums made again, and names beside them |
 //! | `printed` | what is printed of a tree, and which arguments are refused |
 //! | `folders` | a folder, in which nothing is changed |
 //! | `images` | holds no test: the files of a tree, and how they are damaged |

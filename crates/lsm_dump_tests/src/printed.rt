@@ -38,20 +38,20 @@ fn shown_whole(alloc: Global, view: View, is_json: bool, slice: Slice<'_>) -> Re
 const DUMP: &str = "\
 version 5, format 4, log_from 2
 
-level  run  table  entries  tombstones  weak  bytes  numbers  made at  checksum                          sum    keys
-    0    0      3        1           0     0     37  0..0           0  b72e25e2ac01463851bb09022af9675b  right  \"a\" .. \"a\"
-    0    0      4        2           1     0     53  0..1           0  f99977f44aada9534a6e1bfc7d869658  right  \"c\" .. \"c\"
+level\trun\ttable\tentries\ttombstones\tweak\tbytes\tnumbers\tmade at\tchecksum\tsum\tkeys
+0\t0\t3\t1\t0\t0\t37\t0..0\t0\tb72e25e2ac01463851bb09022af9675b\tright\t\"a\" .. \"a\"
+0\t0\t4\t2\t1\t0\t53\t0..1\t0\tf99977f44aada9534a6e1bfc7d869658\tright\t\"c\" .. \"c\"
 
-record  writes  removals  bytes  state
-     1       -         -      -  below log_from, not read
-     2       2         1     33  whole
+record\twrites\tremovals\tbytes\tstate
+1\t-\t-\t-\tbelow log_from, not read
+2\t2\t1\t33\twhole
 
-orphan  tables/7
-orphan  v4
-other   other
+orphan\ttables/7
+orphan\tv4
+other\tother
 
-total  2 tables in 1 runs, 3 entries, 1 tombstones, 0 of them weak, 90 bytes
-total  1 records, 2 writes, 33 bytes; 1 records below log_from; 2 orphans; 0 faults
+total\t2 tables in 1 runs, 3 entries, 1 tombstones, 0 of them weak, 90 bytes
+total\t1 records, 2 writes, 33 bytes; 1 records below log_from; 2 orphans; 0 faults
 ";
 
 #[test]
@@ -69,7 +69,7 @@ fn entries_and_writes_are_listed(rt: HostRuntime) -> Result<(), Fail> {
         (
             View::Table(4),
             ALL,
-            "1  \"c\"  \"y\"\n0  \"c\"  tombstone\n",
+            "1\t\"c\"\t\"y\"\n0\t\"c\"\ttombstone\n",
         ),
         (
             View::Table(4),
@@ -77,7 +77,7 @@ fn entries_and_writes_are_listed(rt: HostRuntime) -> Result<(), Fail> {
                 limit: Some(1),
                 ..ALL
             },
-            "1  \"c\"  \"y\"\n",
+            "1\t\"c\"\t\"y\"\n",
         ),
         (
             View::Table(4),
@@ -93,9 +93,9 @@ fn entries_and_writes_are_listed(rt: HostRuntime) -> Result<(), Fail> {
                 from: Some("0x61"),
                 ..ALL
             },
-            "0  \"a\"  \"x\"\n",
+            "0\t\"a\"\t\"x\"\n",
         ),
-        (View::Record(2), ALL, "\"b\"  \"y\"\n\"a\"  tombstone\n"),
+        (View::Record(2), ALL, "\"b\"\t\"y\"\n\"a\"\ttombstone\n"),
         (View::Record(9), ALL, "log/9: is missing\n"),
         (View::Table(7), ALL, "tables/7: is cut: it has 1 bytes\n"),
         (View::Check, ALL, "opens\n"),
@@ -113,7 +113,7 @@ fn entries_and_writes_are_listed(rt: HostRuntime) -> Result<(), Fail> {
 }
 
 const OBJECT: &str =
-    r#"{"entries":[{"key":{"text":"c"},"number":1,"type":"value","value":{"text":"y"}},{"key":{"text":"c"},"number":0,"type":"tombstone"}],"table":4}
+    r#"{"table":4,"entries":[{"number":1,"key":{"text":"c"},"type":"value","value":{"text":"y"}},{"number":0,"key":{"text":"c"},"type":"tombstone"}]}
 "#;
 
 #[test]
@@ -147,7 +147,7 @@ fn what_is_wrong_is_told(rt: HostRuntime) -> Result<(), Fail> {
         (
             "current",
             b"",
-            "current: has 0 bytes, and not 25\ntables/7: is cut: it has 1 bytes\nrefused: error 7 InvalidHeader\n",
+            "current: isn't of its form\ntables/7: is cut: it has 1 bytes\nrefused: error 7 InvalidHeader\n",
         ),
     ];
     for (name, bytes, text) in rows {

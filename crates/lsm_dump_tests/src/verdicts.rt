@@ -37,7 +37,7 @@ fn told_of(alloc: Global, store: &mut MemStore) -> Result<(u8, u8, bool), Error>
     let verdict = number_of(judge(alloc, store));
     let tree = number_of(judge_tree(alloc, store));
     let found = look_into(alloc, store)?;
-    Ok((verdict, tree, !found.damage.is_empty()))
+    Ok((verdict, tree, !found.faults.is_empty()))
 }
 
 /// Whether what is told of a store is what comes of opening it, twice, since it is changed by that.
@@ -66,6 +66,19 @@ fn changed(alloc: Global, bytes: &[u8], place: usize, mask: u8) -> Result<Vec<u8
     Ok(other)
 }
 
+/// Whether a file with these bytes is told of as it is met, with sums that are made again, so that the grammar decides.
+fn agrees_with_sums(
+    alloc: Global,
+    files: &[Held],
+    is_fourth: bool,
+    name: &str,
+    bytes: &[u8],
+) -> Result<bool, Fail> {
+    let first = store_with_sums(alloc, files, is_fourth, name, bytes)?;
+    let second = store_with_sums(alloc, files, is_fourth, name, bytes)?;
+    Ok(agrees(alloc, first, second)?)
+}
+
 /// Whether a file with these bytes is told of as it is met, with the sums as they are, and made again.
 fn agrees_both(
     alloc: Global,
@@ -74,13 +87,16 @@ fn agrees_both(
     name: &str,
     bytes: &[u8],
 ) -> Result<bool, Fail> {
-    let plain = agrees_on(alloc, files, name, Change::Holds(bytes))?;
-    let first = store_with_sums(alloc, files, is_fourth, name, bytes)?;
-    let second = store_with_sums(alloc, files, is_fourth, name, bytes)?;
-    Ok(plain && agrees(alloc, first, second)?)
+    Ok(
+        agrees_on(alloc, files, name, Change::Holds(bytes))?
+            && agrees_with_sums(alloc, files, is_fourth, name, bytes)?,
+    )
 }
 
-/// Whether a cut of a file there, and a byte there that is changed in three ways, are told of as they are met.
+/// Of so many places one has its damages tried with the sums as they are too.
+const STRIDE: usize = 8;
+
+/// Whether a cut of a file there, and a byte that is changed there, are told of as they are met.
 fn agrees_at(
     alloc: Global,
     files: &[Held],
@@ -88,48 +104,54 @@ fn agrees_at(
     file: &Held,
     place: usize,
 ) -> Result<bool, Fail> {
+    let mask = match place % 3 {
+        0 => 1,
+        1 => 2,
+        _ => 128,
+    };
     let cut = file.bytes.get(..place).unwrap_or_default();
-    let mut agrees = agrees_both(alloc, files, is_fourth, file.name, cut)?;
-    for mask in [1, 2, 128] {
-        let other = changed(alloc, &file.bytes, place, mask)?;
-        agrees = agrees && agrees_both(alloc, files, is_fourth, file.name, &other)?;
+    let other = changed(alloc, &file.bytes, place, mask)?;
+    for bytes in [cut, other.as_slice()] {
+        let agrees = if place % STRIDE == 0 {
+            agrees_both(alloc, files, is_fourth, file.name, bytes)?
+        } else {
+            agrees_with_sums(alloc, files, is_fourth, file.name, bytes)?
+        };
+        if !agrees {
+            return Ok(false);
+        }
     }
-    Ok(agrees)
+    Ok(true)
 }
 
-/// The damages at a place of a file: a cut and three changes, with two kinds of sums.
-const AT_A_PLACE: usize = 8;
-
-/// How many damages of a file were tried, up to the first place at which what is told isn't what is met.
-fn try_places(
+/// The first place of a file at which what is told isn't what is met.
+fn first_difference(
     alloc: Global,
     files: &[Held],
     is_fourth: bool,
     file: &Held,
-) -> Result<(usize, Option<usize>), Fail> {
-    let mut tried: usize = 0;
+) -> Result<Option<usize>, Fail> {
     for place in 0..file.bytes.len() {
         if !agrees_at(alloc, files, is_fourth, file, place)? {
-            return Ok((tried, Some(place)));
+            return Ok(Some(place));
         }
-        tried = tried.saturating_add(AT_A_PLACE);
     }
-    Ok((tried, None))
+    Ok(None)
 }
 
 #[test]
 fn cuts_and_changed_bytes(rt: HostRuntime) -> Result<(), Fail> {
     let alloc = rt.alloc();
-    let mut tried: usize = 0;
     for is_fourth in [false, true] {
         let files = image(alloc, is_fourth)?;
         for file in &files {
-            let (count, differs) = try_places(alloc, &files, is_fourth, file)?;
-            assert_eq!(rt; differs, None, "{} in format 4: {is_fourth}", file.name);
-            tried = tried.saturating_add(count);
+            // The formats differ in the version's file alone.
+            if is_fourth || file.name == "v5" {
+                let differs = first_difference(alloc, &files, is_fourth, file)?;
+                assert_eq!(rt; differs, None, "{} in format 4: {is_fourth}", file.name);
+            }
         }
     }
-    assert!(rt; tried >= 200);
     Ok(())
 }
 

@@ -1,7 +1,6 @@
 // Names that no version names, and names that are refused.
-use crate::flaws::Flaw;
-use crate::look::damage::Damage;
-use crate::look::version::Wanted;
+use crate::look::Damage;
+use crate::look::version::Named;
 use lsm_below::TableId;
 use lsm_log::LogName;
 use lsm_manifest::{NameKind, version_name};
@@ -9,97 +8,84 @@ use lsm_versions::VersionId;
 use std::alloc::{AllocError, Global};
 
 /// Names beside those of the current version and the log.
-#[derive(Debug, Drop)]
-pub struct Others {
+#[derive(Drop)]
+pub(crate) struct Others {
     /// Files of versions and tables that the current version doesn't name. Opening removes them.
-    pub orphans: Vec<String>,
+    pub(crate) orphans: Vec<String>,
     /// Names that are none of a tree's, which opening leaves alone.
-    pub foreign: Vec<String>,
+    pub(crate) foreign: Vec<String>,
+    /// Names for which a tree or its log is refused.
+    pub(crate) damage: Vec<Damage>,
 }
 
 /// What becomes of a name.
-#[derive(Clone, Copy, PartialEq, Eq)]
 enum Fate {
     Counts,
     Orphan,
     Foreign,
+    /// The tree is refused, for this reason.
+    Refused(&'static str),
+}
+
+fn counts_or_orphan(counts: bool) -> Fate {
+    if counts { Fate::Counts } else { Fate::Orphan }
 }
 
 fn fate_in_log(name: &[u8]) -> Fate {
     match lsm_log::kind_of(name) {
-        LogName::RecordFile(_) | LogName::Refused => Fate::Counts,
-        LogName::Skipped => Fate::Foreign,
-        LogName::Other if name == b"current".as_slice() || name == b"version".as_slice() => {
-            Fate::Counts
-        }
-        LogName::Other => Fate::Foreign,
+        LogName::RecordFile(_) => Fate::Counts,
+        LogName::Refused => Fate::Refused("is no name that a tree gives"),
+        LogName::Other if name == b"current".as_slice() => Fate::Counts,
+        LogName::Skipped | LogName::Other => Fate::Foreign,
     }
 }
 
 /// What becomes of a name, beside the version of this id and the tables of these ids, which are sorted.
-fn fate_of(name: &[u8], id: Option<VersionId>, ids: &[TableId]) -> Fate {
-    match lsm_manifest::kind_of(name) {
-        NameKind::VersionFile if name == b"version".as_slice() => Fate::Counts,
+fn fate_of(name: &str, id: Option<VersionId>, ids: &[TableId]) -> Fate {
+    match lsm_manifest::kind_of(name.as_bytes()) {
+        _ if name == "version" => Fate::Refused("marks a tree of an older format"),
         NameKind::VersionFile => match id {
-            Some(id) if name == version_name(id).as_str().as_bytes() => Fate::Counts,
-            _ => Fate::Orphan,
+            Some(id) => counts_or_orphan(name == version_name(id).as_str()),
+            None => Fate::Orphan,
         },
-        NameKind::TableFile(table) if ids.binary_search(&table).is_ok() => Fate::Counts,
-        NameKind::TableFile(_) => Fate::Orphan,
+        NameKind::TableFile(table) => counts_or_orphan(ids.binary_search(&table).is_ok()),
         NameKind::Skipped => Fate::Foreign,
-        NameKind::Refused => Fate::Counts,
-        NameKind::Other => fate_in_log(name),
+        NameKind::Refused => Fate::Refused("is no name that a tree gives"),
+        NameKind::Other => fate_in_log(name.as_bytes()),
     }
 }
 
-fn ids_of(alloc: Global, tables: &[Wanted]) -> Result<Vec<TableId>, AllocError> {
-    let mut ids = Vec::with_capacity(alloc, tables.len())?;
-    for table in tables {
-        ids.push(table.id)?;
-    }
-    ids.sort_unstable();
-    Ok(ids)
-}
-
-/// Sorts names out that the version of this id, with these tables, doesn't name.
-pub(crate) fn sort_names(
-    alloc: Global,
-    names: &[String],
-    id: Option<VersionId>,
-    tables: &[Wanted],
-) -> Result<Others, AllocError> {
-    let ids = ids_of(alloc, tables)?;
-    let mut orphans = Vec::new(alloc);
-    let mut foreign = Vec::new(alloc);
-    for name in names {
-        match fate_of(name.as_bytes(), id, &ids) {
-            Fate::Counts => {}
-            Fate::Orphan => orphans.push(name.clone()?)?,
-            Fate::Foreign => foreign.push(name.clone()?)?,
-        }
-    }
-    orphans.sort_unstable();
-    foreign.sort_unstable();
-    Ok(Others { orphans, foreign })
-}
-
-fn is_refused(name: &[u8]) -> bool {
-    lsm_manifest::kind_of(name) == NameKind::Refused || lsm_log::kind_of(name) == LogName::Refused
-}
-
-/// What is wrong with names: a mark of an older format, and those that a tree or its log refuses.
-pub(crate) fn put_names_damage(
-    alloc: Global,
-    out: &mut Vec<Damage>,
-    names: &[String],
-) -> Result<(), AllocError> {
-    for name in names {
-        if name.as_str() == "version" {
-            out.push(Damage::new(alloc, name.as_str(), Flaw::Older)?)?;
-        }
-        if is_refused(name.as_bytes()) {
-            out.push(Damage::new(alloc, name.as_str(), Flaw::Foreign)?)?;
+fn put_name(alloc: Global, out: &mut Others, name: &str, fate: Fate) -> Result<(), AllocError> {
+    match fate {
+        Fate::Counts => {}
+        Fate::Orphan => out.orphans.push(String::from_str(alloc, name)?)?,
+        Fate::Foreign => out.foreign.push(String::from_str(alloc, name)?)?,
+        Fate::Refused(why) => {
+            let fault = String::from_str(alloc, why)?;
+            out.damage.push(Damage::new(alloc, name, fault)?)?
         }
     }
     Ok(())
+}
+
+/// Sorts names out that this version doesn't name.
+pub(crate) fn sort_names(
+    alloc: Global,
+    names: &[String],
+    named: &Named,
+) -> Result<Others, AllocError> {
+    let mut ids: Vec<TableId> = named.tables.iter().map(|table| table.id).collect(alloc)?;
+    ids.sort_unstable();
+    let mut out = Others {
+        orphans: Vec::new(alloc),
+        foreign: Vec::new(alloc),
+        damage: Vec::new(alloc),
+    };
+    for name in names {
+        let fate = fate_of(name.as_str(), named.id, &ids);
+        put_name(alloc, &mut out, name.as_str(), fate)?;
+    }
+    out.orphans.sort_unstable();
+    out.foreign.sort_unstable();
+    Ok(out)
 }

@@ -1,19 +1,19 @@
 // Records of a log that are looked at, one at a time.
 ghost use Rattle.lsm_store.specs.World.{Same};
 
-use crate::flaws::{Flaw, record_flaw};
-use crate::look::damage::Damage;
-use crate::look::reading::content_of;
-use bytes::Bytes;
-use lsm_below::{Error, SeqNo, share};
-use lsm_log::{LogName, Record, RecordError, decode, kind_of, record_name};
+use crate::look::Damage;
+use crate::look::reading::{ReadFile, read_record};
+use lsm_below::{Error, SeqNo};
+use lsm_log::{LogName, Record, kind_of, record_name};
 use lsm_model::Op;
 use lsm_store::Store;
+use serde::Serialize;
 use std::alloc::{AllocError, Global};
 
 /// What is counted of a batch.
-#[derive(Clone, Copy, Debug, PartialEq, Eq)]
+#[derive(Clone, Copy, Serialize)]
 pub struct Writes {
+    #[serde(rename = "writes")]
     pub count: usize,
     /// How many remove their key, weakly or not.
     pub removals: usize,
@@ -21,13 +21,18 @@ pub struct Writes {
     pub weak: usize,
 }
 
-/// A record that was looked at: its writes, or what is wrong with its file.
-#[derive(Clone, Copy, Debug, PartialEq, Eq)]
+/// A record that was looked at.
+#[derive(Drop, Serialize)]
 pub struct RecordLook {
     /// The number that its name has.
+    #[serde(rename = "record")]
     pub number: SeqNo,
     pub bytes: u64,
-    pub content: Result<Writes, Flaw>,
+    #[serde(flatten)]
+    pub writes: Option<Writes>,
+    /// What is wrong with its file.
+    #[serde(skip)]
+    pub fault: Option<String>,
 }
 
 /// The numbers of the records among names, rising.
@@ -43,39 +48,15 @@ pub(crate) fn numbers_among(alloc: Global, names: &[String]) -> Result<Vec<SeqNo
 }
 
 fn count(record: &Record) -> Writes {
-    let mut removals: usize = 0;
-    let mut weak: usize = 0;
-    for (_, op) in record.ops.as_slice() {
-        match op {
-            Op::Set(_) => {}
-            Op::Del => removals = removals.saturating_add(1),
-            Op::Weak => {
-                removals = removals.saturating_add(1);
-                weak = weak.saturating_add(1);
-            }
-        }
-    }
+    let ops = record.ops.as_slice();
     Writes {
-        count: record.ops.as_slice().len(),
-        removals,
-        weak,
+        count: ops.len(),
+        removals: ops
+            .iter()
+            .filter(|(_, op)| !matches!(op, Op::Set(_)))
+            .count(),
+        weak: ops.iter().filter(|(_, op)| matches!(op, Op::Weak)).count(),
     }
-}
-
-/// What the bytes of the file of this number hold.
-fn judge(alloc: Global, number: SeqNo, bytes: Bytes) -> Result<RecordLook, Error> {
-    let len = bytes.len() as u64;
-    let content = match decode(alloc, share(&bytes)?) {
-        Ok(record) if record.number == number => Ok(count(&record)),
-        Ok(record) => Err(Flaw::Number(record.number)),
-        Err(RecordError::OutOfMemory) => return Err(Error::OutOfMemory),
-        Err(RecordError::BadRecord) => Err(record_flaw(bytes.as_slice())),
-    };
-    Ok(RecordLook {
-        number,
-        bytes: len,
-        content,
-    })
 }
 
 fn look_at_record<S: Store>(
@@ -85,15 +66,17 @@ fn look_at_record<S: Store>(
 ) -> Result<RecordLook, Error>
     ensures { S.tells → Same (S.world store.old) (S.world store.new) }
 {
-    let name = record_name(number);
-    match content_of(alloc, store, name.as_str())? {
-        Some(content) => judge(alloc, number, Bytes::from_vec(content)?),
-        None => Ok(RecordLook {
-            number,
-            bytes: 0,
-            content: Err(Flaw::Missing),
-        }),
-    }
+    let ReadFile { bytes, content, .. } = read_record(alloc, store, number)?;
+    let (writes, fault) = match content {
+        Ok(record) => (Some(count(&record)), None),
+        Err(fault) => (None, Some(fault)),
+    };
+    Ok(RecordLook {
+        number,
+        bytes,
+        writes,
+        fault,
+    })
 }
 
 /// Looks at the records of these numbers, of which one is in memory at a time.
@@ -118,9 +101,9 @@ pub(crate) fn put_records_damage(
     records: &[RecordLook],
 ) -> Result<(), AllocError> {
     for record in records {
-        if let Err(flaw) = record.content {
+        if let Some(fault) = &record.fault {
             let name = record_name(record.number);
-            out.push(Damage::new(alloc, name.as_str(), flaw)?)?;
+            out.push(Damage::new(alloc, name.as_str(), fault.clone()?)?)?;
         }
     }
     Ok(())

@@ -1,24 +1,39 @@
 // Tables that are looked at, one at a time: what is counted of each, or what is wrong with its file.
 ghost use Rattle.lsm_store.specs.World.{Same};
 
-use crate::flaws::{Flaw, RunPlace, table_flaw};
-use crate::look::damage::Damage;
-use crate::look::reading::content_of;
-use crate::look::version::Wanted;
-use bytes::Bytes;
-use lsm_below::{Error, InternalValue, Ranged, SeqNo, share};
+use crate::look::Damage;
+use crate::look::reading::{ReadFile, read_table};
+use crate::look::version::{Place, Wanted};
+use crate::shown::{ShownBytes, Sum};
+use lsm_below::{Error, Ranged, SeqNo, TableId};
 use lsm_manifest::table_name;
 use lsm_store::Store;
-use lsm_tables::{Checksum, Table, TableError};
+use lsm_tables::Table;
+use serde::{Described, Serialize, Serializer};
 use std::alloc::{AllocError, Global};
 
 /// From this sequence number on a tree isn't opened.
 const LIMIT: SeqNo = 9_223_372_036_854_775_808;
 
+/// A key of a table.
+#[derive(Drop)]
+pub struct Key(pub Vec<u8>);
+
+impl Described for Key {}
+
+impl Serialize for Key {
+    fn serialize<S: Serializer>(&self, out: &mut S) -> Result<(), S::Error> {
+        match ShownBytes::new(*self.0.allocator(), &self.0) {
+            Ok(shown) => shown.serialize(out),
+            Err(_) => Err(out.custom("a growth was refused")),
+        }
+    }
+}
+
 /// What is counted of a table's entries.
-#[derive(Debug, Drop)]
+#[derive(Drop, Serialize)]
 pub struct Entries {
-    pub created_at: u64,
+    #[serde(rename = "entries")]
     pub count: usize,
     /// How many remove their key, weakly or not.
     pub tombstones: usize,
@@ -27,109 +42,92 @@ pub struct Entries {
     /// The sequence numbers, from the least to the greatest.
     pub lowest: SeqNo,
     pub highest: SeqNo,
+    #[serde(rename = "made_at")]
+    pub created_at: u64,
     /// The keys, from the first to the last.
-    pub first: Vec<u8>,
-    pub last: Vec<u8>,
-}
-
-/// What a table's file holds.
-#[derive(Debug, Drop)]
-pub enum Content {
-    /// The file isn't there.
-    Missing,
-    /// It is no table's, for this reason.
-    Broken(Flaw),
-    /// It is a table's.
-    Whole(Entries),
+    pub first: Key,
+    pub last: Key,
 }
 
 /// A table that was looked at.
-#[derive(Debug, Drop)]
+#[derive(Drop, Serialize)]
 pub struct TableLook {
-    pub wanted: Wanted,
-    /// The bytes of its file and their sum.
+    #[serde(rename = "table")]
+    pub id: TableId,
+    /// None where no version is read.
+    #[serde(flatten)]
+    pub place: Option<Place>,
+    /// The bytes of its file and their sum, which is None where it isn't there.
     pub bytes: u64,
-    pub sum: Checksum,
-    pub content: Content,
+    #[serde(skip_serializing_if = "Option::is_none")]
+    pub sum: Option<Sum>,
+    #[serde(flatten)]
+    pub entries: Option<Entries>,
+    /// Why the file is no table's.
+    #[serde(skip)]
+    pub fault: Option<String>,
 }
 
 impl TableLook {
     /// What is counted, where the file is a table's and has the stored sum.
     pub fn whole(&self) -> Option<&Entries> {
-        match &self.content {
-            Content::Whole(entries) if !self.has_other_sum() => Some(entries),
+        if self.other_sum().is_some() {
+            return None;
+        }
+        self.entries.as_ref()
+    }
+
+    /// The stored sum and that of the file, where they differ.
+    pub fn other_sum(&self) -> Option<(Sum, Sum)> {
+        match (self.place, self.sum) {
+            (Some(place), Some(sum)) if place.stored != sum => Some((place.stored, sum)),
             _ => None,
         }
     }
 
-    /// Whether the file is there, and has another sum than the one that is stored.
-    pub fn has_other_sum(&self) -> bool {
-        match (&self.content, self.wanted.stored) {
-            (Content::Missing, _) | (_, None) => false,
-            (_, Some(stored)) => self.sum != stored,
-        }
+    /// The level and the run that it stands in.
+    pub fn run(&self) -> Option<(usize, usize)> {
+        let place = self.place?;
+        Some((place.level, place.run))
     }
-
-    fn missing(wanted: Wanted) -> TableLook {
-        TableLook {
-            wanted,
-            bytes: 0,
-            sum: Checksum::from_raw(0),
-            content: Content::Missing,
-        }
-    }
-}
-
-fn lowest_of(entries: &[InternalValue]) -> SeqNo {
-    let mut lowest = SeqNo::MAX;
-    for entry in entries {
-        lowest = lowest.min(entry.key.seqno);
-    }
-    lowest
 }
 
 /// What is counted of a table. Its keys are copied, so that the table's bytes can go.
 fn count(alloc: Global, table: &Table) -> Result<Entries, AllocError> {
     let range = table.key_range();
+    let numbers = table.entries().iter().map(|entry| entry.key.seqno);
     Ok(Entries {
-        created_at: table.created_at(),
         count: table.item_count(),
         tombstones: table.tombstone_count(),
         weak: table.weak_tombstone_count(),
-        lowest: lowest_of(table.entries()),
+        lowest: numbers.fold(SeqNo::MAX, |lowest, number| lowest.min(number)),
         highest: table.get_highest_seqno(),
-        first: Vec::from_slice(alloc, range.min().as_slice())?,
-        last: Vec::from_slice(alloc, range.max().as_slice())?,
-    })
-}
-
-/// What the bytes of a table's file hold. The sum is taken once.
-fn judge(alloc: Global, wanted: Wanted, bytes: Bytes) -> Result<TableLook, Error> {
-    let len = bytes.len() as u64;
-    let (sum, content) = match Table::recover(alloc, wanted.id, share(&bytes)?) {
-        Ok(table) => (table.checksum(), Content::Whole(count(alloc, &table)?)),
-        Err(TableError::OutOfMemory) => return Err(Error::OutOfMemory),
-        Err(TableError::BadTable) => {
-            let sum = Checksum::of(bytes.as_slice());
-            (sum, Content::Broken(table_flaw(bytes.as_slice())))
-        }
-    };
-    Ok(TableLook {
-        wanted,
-        bytes: len,
-        sum,
-        content,
+        created_at: table.created_at(),
+        first: Key(Vec::from_slice(alloc, range.min().as_slice())?),
+        last: Key(Vec::from_slice(alloc, range.max().as_slice())?),
     })
 }
 
 fn look_at_table<S: Store>(alloc: Global, store: &mut S, wanted: Wanted) -> Result<TableLook, Error>
     ensures { S.tells → Same (S.world store.old) (S.world store.new) }
 {
-    let name = table_name(wanted.id);
-    match content_of(alloc, store, name.as_str())? {
-        Some(content) => judge(alloc, wanted, Bytes::from_vec(content)?),
-        None => Ok(TableLook::missing(wanted)),
-    }
+    let ReadFile {
+        bytes,
+        sum,
+        content,
+    } = read_table(alloc, store, wanted.id)?;
+    let (entries, fault) = match content {
+        Ok(table) => (Some(count(alloc, &table)?), None),
+        Err(fault) => (None, Some(fault)),
+    };
+    Ok(TableLook {
+        id: wanted.id,
+        place: wanted.place,
+        bytes,
+        sum: sum.map(Sum),
+        entries,
+        fault,
+    })
 }
 
 /// Looks at these tables, of which one is in memory at a time.
@@ -147,26 +145,27 @@ pub(crate) fn look_at_tables<S: Store>(
     Ok(tables)
 }
 
-/// What is wrong with a table's file.
 fn put_table_damage(
     alloc: Global,
     out: &mut Vec<Damage>,
     table: &TableLook,
 ) -> Result<(), AllocError> {
-    let name = table_name(table.wanted.id);
-    let name = name.as_str();
-    if table.has_other_sum() {
-        let stored = table.wanted.stored.unwrap_or(table.sum);
-        out.push(Damage::new(alloc, name, Flaw::Sum(stored, table.sum))?)?;
+    let name = table_name(table.id);
+    if let Some((stored, sum)) = table.other_sum() {
+        let fault = format!(in alloc; "the sum differs: stored {stored}, is {sum}")?;
+        out.push(Damage::new(alloc, name.as_str(), fault)?)?;
     }
-    match &table.content {
-        Content::Missing => out.push(Damage::new(alloc, name, Flaw::Missing)?)?,
-        Content::Broken(flaw) => out.push(Damage::new(alloc, name, *flaw)?)?,
-        Content::Whole(entries) if entries.highest >= LIMIT => {
-            out.push(Damage::new(alloc, name, Flaw::HighNumber(entries.highest))?)?
+    let fault = match (&table.fault, &table.entries) {
+        (Some(fault), _) => fault.clone()?,
+        (None, Some(entries)) if entries.highest >= LIMIT => {
+            format!(in alloc;
+                "has the sequence number {}, above 2^63 - 1",
+                entries.highest
+            )?
         }
-        Content::Whole(_) => {}
-    }
+        _ => return Ok(()),
+    };
+    out.push(Damage::new(alloc, name.as_str(), fault)?)?;
     Ok(())
 }
 
@@ -182,22 +181,13 @@ pub(crate) fn put_tables_damage(
     Ok(())
 }
 
-/// Whether a version names both as tables of one run.
-fn are_of_one_run(first: &Wanted, second: &Wanted) -> bool {
-    first.stored.is_some() && first.level == second.level && first.run == second.run
-}
-
-/// Where two tables that follow each other in a run aren't in order.
-fn run_flaw(first: &TableLook, second: &TableLook) -> Option<Flaw> {
+/// Where two tables that follow each other in a run aren't in order: the level and the run.
+fn disorder(first: &TableLook, second: &TableLook) -> Option<(usize, usize)> {
     let (left, right) = (first.whole()?, second.whole()?);
-    if !are_of_one_run(&first.wanted, &second.wanted) || left.last < right.first {
+    if first.run() != second.run() || left.last.0 < right.first.0 {
         return None;
     }
-    let place = RunPlace {
-        level: first.wanted.level,
-        run: first.wanted.run,
-    };
-    Some(Flaw::Run(place, first.wanted.id, second.wanted.id))
+    first.run()
 }
 
 /// What is wrong with the runs of a version, whose file has this name.
@@ -208,8 +198,12 @@ pub(crate) fn put_runs_damage(
     tables: &[TableLook],
 ) -> Result<(), AllocError> {
     for (first, second) in tables.iter().zip(tables.iter().skip(1)) {
-        if let Some(flaw) = run_flaw(first, second) {
-            out.push(Damage::new(alloc, name, flaw)?)?;
+        if let Some((level, run)) = disorder(first, second) {
+            let (below, above) = (first.id, second.id);
+            let fault = format!(in alloc;
+                "level {level}, run {run}: table {below} isn't below table {above}"
+            )?;
+            out.push(Damage::new(alloc, name, fault)?)?;
         }
     }
     Ok(())
