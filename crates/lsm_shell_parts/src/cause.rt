@@ -108,7 +108,7 @@ fn damage_of<S: Store>(
     otherwise: &str,
 ) -> Option<String> {
     let look = look_into(alloc, store).ok()?;
-    for damage in &look.damage {
+    for damage in &look.faults {
         if !damage.name.starts_with("log/") {
             return format!(in alloc; "{}: open: {error}", damage.name).ok();
         }
