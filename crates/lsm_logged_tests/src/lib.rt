@@ -1,7 +1,9 @@
-//! The tests of a logged tree: what it is once it is opened again.
+//! The tests of the log, and of a logged tree: what it is once it is opened again.
 //!
 //! | Module | Tests |
 //! |-|-|
+//! | `records` | the bytes of records |
+//! | `putting` | records that are put, read and removed, and what a crash leaves of them |
 //! | `logs` | batches that come back, outcomes that are unknown, and records that are removed |
 //! | `formats` | a log beside a version in format 3 |
 //! | `lives` | three lives in which any one store call fails, and what crashes leave after them |
@@ -14,5 +16,9 @@ mod formats;
 mod lives;
 #[cfg(test)]
 mod logs;
+#[cfg(test)]
+mod putting;
+#[cfg(test)]
+mod records;
 #[cfg(test)]
 mod trees;

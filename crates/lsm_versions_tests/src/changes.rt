@@ -57,7 +57,7 @@ fn with_table(
     let (list, to) = place.unwrap_or((&[], 0));
     assert!(rt; to < 7);
     let ids = ids(alloc, list)?;
-    let tables = vec![in alloc; table(rt, alloc, new.0, new.1, new.0)?]?;
+    let tables = vec![in alloc; table(rt, alloc, new.0, new.1, (new.0, 0))?]?;
     assert!(rt; is_run(&tables));
     let own = ids_are_own(alloc, &tables, version.levels())?;
     assert!(rt; own);

@@ -82,7 +82,7 @@ fn choices_are_declined_for_their_reasons(rt: HostRuntime) -> Result<(), Fail> {
 /// The reason at the end of a merge into level 0 of table 0, made of this entry.
 fn ends(rt: &impl Abort, alloc: Global, rows: &[Row], seqno: u64) -> Result<Option<Why>, Fail> {
     let ids = ids(alloc, &[0])?;
-    let input = vec![in alloc; table(rt, alloc, 0, "a", seqno)?]?;
+    let input = vec![in alloc; table(rt, alloc, 0, "a", (seqno, 0))?]?;
     let version = version(rt, alloc, 5, rows)?;
     let why = last_reason(alloc, &input, &ids, 0, &version);
     drop(input);

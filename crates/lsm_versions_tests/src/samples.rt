@@ -27,17 +27,18 @@ fn entries(
     Ok(vec![in alloc; entry]?)
 }
 
-/// A table of one entry, x under a key. Its file has 37 bytes where the key has one.
+/// A table of one entry, x under a key, with its sequence number and the moment at which it is made. Its file has 37 bytes where
+/// the key has one.
 pub fn table(
     rt: &impl Abort,
     alloc: Global,
     id: TableId,
     key: &'static str,
-    seqno: SeqNo,
+    (seqno, made): (SeqNo, u64),
 ) -> Result<Table, Fail> {
     let entries = entries(alloc, key, seqno)?;
     assert!(rt; is_writable(&entries));
-    let images = write_tables(alloc, u64::MAX, 0, &entries);
+    let images = write_tables(alloc, u64::MAX, made, &entries);
     drop(entries);
     let image = images?.pop().ok_or("no image")?;
     Ok(Table::recover(alloc, id, Bytes::from_vec(image)?)?)
@@ -48,7 +49,7 @@ fn level(rt: &impl Abort, alloc: Global, n: usize, rows: &[Row]) -> Result<Level
     let mut runs = Vec::new(alloc);
     for (at, id, key) in rows {
         if *at == n {
-            let run = Run::single(alloc, table(rt, alloc, *id, key, *id)?)?;
+            let run = Run::single(alloc, table(rt, alloc, *id, key, (*id, 0))?)?;
             runs.push(run)?;
         }
     }

@@ -1,5 +1,5 @@
 // The targets of levels, and what becomes of them.
-use crate::samples::{Row, Wanted, chooses};
+use crate::asking::{Row, Wanted, chooses};
 use lsm_below::TableId;
 use lsm_pick::{Leveled, Levelled};
 use std::alloc::Global;

@@ -1,11 +1,10 @@
-// What tests make versions by, and how they ask a strategy.
+// How tests ask a strategy.
 //
 // What owns a table borrows it to a helper, and has no `?` after: a deep value that is dropped is long to prove.
 
-use bytes::Bytes;
-use lsm_below::{InternalValue, Run, TableId, UserKey, UserValue, ValueType, optimize_runs};
+use crate::samples::{ids, table};
+use lsm_below::{Run, TableId, optimize_runs};
 use lsm_pick::{Choice, ChooseError, CompactionStrategy, Input};
-use lsm_tables::{Table, is_writable, write_tables};
 use lsm_versions::{CompactionState, Config, Level, Version, ids_are_own, levels_fit};
 use std::alloc::{AllocError, Global};
 use std::collections::HashSet;
@@ -25,28 +24,12 @@ pub enum Wanted {
     Refused(ChooseError),
 }
 
-fn entries(alloc: Global, key: &'static str) -> Result<Vec<InternalValue>, AllocError> {
-    let key = UserKey::from_static(key.as_bytes());
-    let value = UserValue::from_static(b"x");
-    let entry = InternalValue::from_components(key, value, 0, ValueType::Value);
-    Ok(vec![in alloc; entry]?)
-}
-
-fn table(rt: &impl Abort, alloc: Global, row: &Row) -> Result<Table, Fail> {
-    let entries = entries(alloc, row.2)?;
-    assert!(rt; is_writable(&entries));
-    let images = write_tables(alloc, u64::MAX, row.3, &entries);
-    drop(entries);
-    let image = images?.pop().ok_or("no image")?;
-    Ok(Table::recover(alloc, row.1, Bytes::from_vec(image)?)?)
-}
-
 /// The level of some rows: one run where no two share a key.
 fn level(rt: &impl Abort, alloc: Global, n: usize, rows: &[Row]) -> Result<Level, Fail> {
     let mut runs = Vec::new(alloc);
     for row in rows {
         if row.0 == n {
-            runs.push(Run::single(alloc, table(rt, alloc, row)?)?)?;
+            runs.push(Run::single(alloc, table(rt, alloc, row.1, row.2, (0, row.3))?)?)?;
         }
     }
     Ok(Level::from_runs(optimize_runs(alloc, runs)?))
@@ -67,14 +50,6 @@ fn version(rt: &impl Abort, alloc: Global, rows: &[Row]) -> Result<Version, Fail
     assert!(rt; levels.len() == 7);
     assert!(rt; levels_fit(&levels));
     Ok(Version::from_levels(5, levels))
-}
-
-fn ids(alloc: Global, list: &[TableId]) -> Result<HashSet<TableId>, AllocError> {
-    let mut set = HashSet::new(alloc);
-    for id in list {
-        set.insert(*id)?;
-    }
-    Ok(set)
 }
 
 fn input(

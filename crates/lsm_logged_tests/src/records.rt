@@ -1,9 +1,8 @@
 // The bytes of records.
 
 use bytes::Bytes;
-use lsm_below::UserKey;
 use lsm_log::{RecordError, decode, encode};
-use lsm_model::Op;
+use lsm_state::{Op, UserKey};
 use std::alloc::{AllocError, Global};
 use std::test::Fail;
 

@@ -1,5 +1,5 @@
 // What is too old or too much.
-use crate::samples::{Row, Wanted, chooses};
+use crate::asking::{Row, Wanted, chooses};
 use lsm_below::TableId;
 use lsm_pick::{ChooseError, Fifo};
 use std::test::Fail;

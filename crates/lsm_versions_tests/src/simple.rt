@@ -1,5 +1,5 @@
 // Merges of everything, drops within bounds.
-use crate::samples::{Row, Wanted, chooses};
+use crate::asking::{Row, Wanted, chooses};
 use lsm_below::UserKey;
 use lsm_pick::{DropRange, Major, OwnedBounds};
 use std::alloc::Global;

@@ -1,8 +1,7 @@
 // Records that are put, read and removed, and what a crash leaves of them.
 
-use lsm_below::Error;
 use lsm_log::{LogNumbers, check_log, put_record, read_record, record_name, remove_below};
-use lsm_store::{Fault, MemStore, Pick, Store};
+use lsm_state::{Error, Fault, MemStore, Pick, Store};
 use std::alloc::{AllocError, Global};
 use std::test::Fail;
 
