@@ -136,8 +136,6 @@ module _ (opened : List Entry) where
       })
 
 module _ (theory : Soundness) (maps : MapsAreRead) (whole : PartsAreWhole) (placed : TablesArePlaced) where
-  module _ (opened : List Entry) (start : Map) where
-
   pub counter_stays : CounterStaysAbove
   counter_stays = record {
     opened = λ image t c r a v b. record {

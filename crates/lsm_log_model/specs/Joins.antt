@@ -45,5 +45,3 @@ pub record CounterStaysAbove : Type 0 where
   pub later : (opened : List Entry) (t : Logged) (c d : ℕ) → c ≤ d → MayBeDrawn opened t c → MayBeDrawn opened t d
   pub act : (image : LogImage) (first old new : Logged) (earlier : List Act) (act : Act) (c d : ℕ) → LogStands image → IsReopened image first → AllActs (opened_by image) first earlier old → Acts (opened_by image) old act new → InOrder (opened_by image) new.tree.state.journal
       → MayBeDrawn (opened_by image) old c → c ≤ d → DrawsBelow act new d → MayBeDrawn (opened_by image) new d
-
--- ---- deeds of the tree

@@ -150,7 +150,3 @@ pub runs_compose : Soundness → EveryCrashRecovers → DeedsJoin → {F : Type 
 runs_compose theory crashes join R Finds Shows world opened start n told first points show stands each many small order =
     compose theory crashes join Finds (Shows n) world opened start n show (take many told) first (take many points) stands
     (does_front theory crashes join Finds (Shows n) world opened start n show many told first points each) order small
-
--- ---- reads alone
-
-module _ (theory : Soundness) (opened : List Entry) (start : Map) where

@@ -152,5 +152,3 @@ moments_join R Shows world = record {
   join = λ opened start past told more was stores others. join Shows world opened start past told more was stores others;
   cut = λ opened start past told more was chain each. let p = cut Shows world opened start past told more was chain each in (p.stores, p.others, p.are, p.front, p.back);
 }
-
--- ---- one image

@@ -335,5 +335,3 @@ module _ (maps : MapsAreRead) (opened : List Entry) where
 
 pub rising_is_in_order : MapsAreRead → (R : Type 0) → RisingIsInOrder R
 rising_is_in_order maps R opened journal calls told counter low c set counters s w r once u = rising maps opened journal calls told counter low c set counters s w r once u
-
--- ---- fronts, and lower numbers

@@ -75,5 +75,3 @@ pub record Settling {F : Type 0} (Shows : Image → Map → Type 0) (world : F �
   pub fails : FailingOpens Shows world
   pub narrows : NarrowingLeaves world
   pub puts : SettlingPuts world
-
--- ---- from images to stores that opening takes

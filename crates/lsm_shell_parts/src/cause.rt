@@ -109,8 +109,8 @@ fn damage_of<S: Store>(
 ) -> Option<String> {
     let look = look_into(alloc, store).ok()?;
     for damage in &look.faults {
-        if !damage.name.starts_with("log/") {
-            return format!(in alloc; "{}: open: {error}", damage.name).ok();
+        if !damage.file.starts_with("log/") {
+            return format!(in alloc; "{}: open: {error}", damage.file).ok();
         }
     }
     String::from_str(alloc, otherwise).ok()
