@@ -55,3 +55,5 @@ filter_between {X} p q xs start end low high =
     ∙ filter_before q (drop start xs) (end - start)
     (λ j d lt in_range. rw (get_or-drop start xs j d) (high.0 (start + j) d (omega arith) (omega arith)))
     (λ j d le lt. rw (get_or-drop start xs j d) (high.1 (start + j) d (omega arith) (omega (arith, length-drop start xs)))))
+
+-- ---- keys that rise pass a bound in one go
