@@ -1,17 +1,17 @@
 -- A life on a new store in memory, a crash, and a life on what it left.
 use Rattle.std.proofs.Common.{ℕ, ◌≤◌, ◌^◌, arith, List, map, ap}
 use Rattle.std.specs.FinMap.{empty}
-use Rattle.lsm_below.specs.Entries.{above}
-use Rattle.lsm_below.specs.declared.error.Error.{Error}
-use Rattle.lsm_store.specs.Memory.{MemStore, may_of, world_of}
-use Rattle.lsm_store.specs.World.{Image, IsImage, Begins}
+use Rattle.lsm_runs.specs.Entries.{above}
+use Rattle.lsm_runs.specs.Error.{Error}
+use Rattle.lsm_runs.specs.Memory.{MemStore, may_of, world_of}
+use Rattle.lsm_runs.specs.World.{Image, IsImage, Begins}
 use Rattle.lsm_store.proofs.Memories.{gives_now}
-use Rattle.lsm_model.specs.Journal.{Map}
-use Rattle.lsm_model.specs.Views.{held}
-use Rattle.lsm_versions.specs.Levels.{Levels, placed_of}
-use Rattle.lsm_manifest.specs.Finding.{Finds, StandsForMap, RefusesFound}
-use Rattle.lsm_manifest.specs.Ready.{IsReady}
-use Rattle.lsm_run_model.specs.Rising.{At, highest}
+use Rattle.lsm_runs.specs.Journal.{Map}
+use Rattle.lsm_runs.specs.Views.{held}
+use Rattle.lsm_runs.specs.Levels.{Levels, placed_of}
+use Rattle.lsm_runs.specs.Finding.{Finds, StandsForMap, RefusesFound}
+use Rattle.lsm_runs.specs.Ready.{IsReady}
+use Rattle.lsm_runs.specs.Rising.{At, highest}
 use Rattle.lsm_runs.specs.declared.steps.Step.{Step}
 use Rattle.lsm_runs.specs.Drawing.{drawing_of}
 use Rattle.lsm_runs.specs.Moments.{Reopens}

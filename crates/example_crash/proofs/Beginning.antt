@@ -1,20 +1,20 @@
 -- A store in memory that is opened, before the first step.
 use Rattle.std.proofs.Common.{◌≡◌, ℕ, ◌≤◌, ◌^◌, max, arith, List, [], Ok, take, length, sym, ap, subst}
-use Rattle.lsm_below.specs.Entries.{Entry, above}
-use Rattle.lsm_below.specs.Sums.{capped}
-use Rattle.lsm_store.specs.Memory.{MemStore, world_of}
-use Rattle.lsm_store.specs.World.{Begins}
-use Rattle.lsm_model.specs.Journal.{Map, next_number}
-use Rattle.lsm_model.specs.Views.{held}
-use Rattle.lsm_versions.specs.Configs.{raised}
-use Rattle.lsm_versions.specs.Levels.{Levels, placed_of, empty_levels}
-use Rattle.lsm_versions.specs.declared.config.Config.{Config}
-use Rattle.lsm_manifest.specs.Finding.{Finds, OpeningFinds}
-use Rattle.lsm_manifest.specs.Ready.{OpeningLeavesRead}
-use Rattle.lsm_manifest.specs.Standing.{HasSmallNumbers}
+use Rattle.lsm_runs.specs.Entries.{Entry, above}
+use Rattle.lsm_runs.specs.Sums.{capped}
+use Rattle.lsm_runs.specs.Memory.{MemStore, world_of}
+use Rattle.lsm_runs.specs.World.{Begins}
+use Rattle.lsm_runs.specs.Journal.{Map, next_number}
+use Rattle.lsm_runs.specs.Views.{held}
+use Rattle.lsm_runs.specs.Configs.{raised}
+use Rattle.lsm_runs.specs.Levels.{Levels, placed_of, empty_levels}
+use Rattle.lsm_runs.specs.Config.{Config}
+use Rattle.lsm_runs.specs.Finding.{Finds, OpeningFinds}
+use Rattle.lsm_runs.specs.Ready.{OpeningLeavesRead}
+use Rattle.lsm_runs.specs.Standing.{HasSmallNumbers}
 use Rattle.lsm_manifest.proofs.FindingLemmas.{nothing_in as none}
-use Rattle.lsm_state.specs.Core.{Core, opened_core}
-use Rattle.lsm_state.specs.Opened.{found_entries, OpensTree}
+use Rattle.lsm_runs.specs.Core.{Core, opened_core}
+use Rattle.lsm_runs.specs.Opened.{found_entries, OpensTree}
 use Rattle.lsm_runs.specs.declared.steps.Step.{Step}
 use Rattle.lsm_runs.specs.After.{RunIsRight}
 use Rattle.lsm_runs.specs.Compacting.{Strategies}

@@ -1,22 +1,22 @@
 -- What was taken step by step, as its caller has it, and one step more.
 use Rattle.std.proofs.Common.{◌≡◌, inl, ℕ, ◌+◌, ◌≤◌, ◌^◌, max, arith, cond, true, false, List, [], ◌∷◌, ◌++◌, map, take, length, refl, sym, ap, ◌∙◌, subst, append-nil, append_assoc}
-use Rattle.lsm_below.specs.Entries.{Entry, above}
-use Rattle.lsm_store.specs.Memory.{MemStore, may_of, world_of}
-use Rattle.lsm_store.specs.World.{Image, World, IsImage}
-use Rattle.lsm_model.specs.Beginnings.{covered}
-use Rattle.lsm_model.specs.Journal.{Event, Map, InOrder, next_number}
-use Rattle.lsm_model.specs.Soundness.{HoldsIsKept}
-use Rattle.lsm_model.specs.Views.{held}
-use Rattle.lsm_versions.specs.Levels.{Levels, placed_of}
-use Rattle.lsm_manifest.specs.Finding.{Finds}
-use Rattle.lsm_manifest.specs.Ready.{IsReady}
-use Rattle.lsm_state.specs.Core.{Core}
-use Rattle.lsm_run_model.specs.Composing.{AreNumbered, NumbersAreBounded}
-use Rattle.lsm_run_model.specs.Following.{MomentsJoin}
+use Rattle.lsm_runs.specs.Entries.{Entry, above}
+use Rattle.lsm_runs.specs.Memory.{MemStore, may_of, world_of}
+use Rattle.lsm_runs.specs.World.{Image, World, IsImage}
+use Rattle.lsm_runs.specs.Beginnings.{covered}
+use Rattle.lsm_runs.specs.Journal.{Event, Map, InOrder, next_number}
+use Rattle.lsm_runs.specs.Soundness.{HoldsIsKept}
+use Rattle.lsm_runs.specs.Views.{held}
+use Rattle.lsm_runs.specs.Levels.{Levels, placed_of}
+use Rattle.lsm_runs.specs.Finding.{Finds}
+use Rattle.lsm_runs.specs.Ready.{IsReady}
+use Rattle.lsm_runs.specs.Core.{Core}
+use Rattle.lsm_runs.specs.Composing.{AreNumbered, NumbersAreBounded}
+use Rattle.lsm_runs.specs.Following.{MomentsJoin}
 use Rattle.lsm_run_model.specs.Moments.{HoldsBeginning, LeavesNow, EachMoment, last_of}
-use Rattle.lsm_run_model.specs.Outcomes.{Past, nothing, after, after_all, is_no_low_read, without_low_reads}
-use Rattle.lsm_run_model.specs.Outcomes as out
-use Rattle.lsm_run_model.specs.Rising.{At, RisesFrom, highest, StandsBelow, StaysInOrder, RisingIsInOrder, OrderWithoutReads}
+use Rattle.lsm_runs.specs.Outcomes.{Past, nothing, after, after_all, is_no_low_read, without_low_reads}
+use Rattle.lsm_runs.specs.Outcomes as out
+use Rattle.lsm_runs.specs.Rising.{At, RisesFrom, highest, StandsBelow, StaysInOrder, RisingIsInOrder, OrderWithoutReads}
 use Rattle.lsm_runs.specs.declared.steps.Step.{Step}
 use Rattle.lsm_runs.specs.declared.steps.Reply.{Reply}
 use Rattle.lsm_runs.specs.After.{RunIsRight}

@@ -2,7 +2,7 @@
 use Rattle.std.proofs.Common.{◌≡◌, ⊎_elim, inl, inr, ℕ, zero, suc, ◌+◌, ◌-◌, ◌≤◌, arith, List, [], ◌∷◌, ◌++◌, map, take, drop, length, refl, sym, ap, ◌∙◌, append_assoc}
 use Rattle.std.proofs.Math.Seq.{take-add}
 use Rattle.std.specs.List.{slice_range}
-use Rattle.lsm_below.specs.Members.{IsIn}
+use Rattle.lsm_runs.specs.Members.{IsIn}
 use Rattle.lsm_run_model.specs.Moments.{last_of}
 
 -- what holds of the first so many, and of all with one more, holds of the first so many of these

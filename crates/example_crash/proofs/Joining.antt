@@ -1,25 +1,25 @@
 -- One step more, after those so far.
 use Rattle.std.proofs.Common.{◌≡◌, ℕ, ◌+◌, ◌<◌, ◌≤◌, ◌^◌, arith, List, [], ◌∷◌, ◌++◌, None, map, length, refl, sym, ap, ◌∙◌, subst, append-nil, append_assoc}
-use Rattle.lsm_below.specs.Each.{each_append, each_left, each_filter}
-use Rattle.lsm_below.specs.Entries.{Entry, above}
-use Rattle.lsm_store.specs.World.{World}
-use Rattle.lsm_model.specs.Counted.{OfWrite}
-use Rattle.lsm_model.specs.Journal.{Event, Map, InOrder}
-use Rattle.lsm_model.specs.Sound.{Holds}
-use Rattle.lsm_model.specs.Soundness.{HoldsIsKept}
-use Rattle.lsm_model.specs.Steps.{IsOpened}
-use Rattle.lsm_model.specs.Views.{held}
-use Rattle.lsm_versions.specs.Levels.{Levels, placed_of}
-use Rattle.lsm_manifest.specs.Finding.{Finds}
-use Rattle.lsm_manifest.specs.Ready.{OpeningLeaves}
-use Rattle.lsm_commit.specs.Stored.{IsStored}
-use Rattle.lsm_state.specs.Core.{Core, state_of, versions_left, written_of}
-use Rattle.lsm_run_model.specs.Composing.{AreNumbered}
-use Rattle.lsm_run_model.specs.Following.{MomentsJoin}
+use Rattle.lsm_runs.specs.Each.{each_append, each_left, each_filter}
+use Rattle.lsm_runs.specs.Entries.{Entry, above}
+use Rattle.lsm_runs.specs.World.{World}
+use Rattle.lsm_runs.specs.Counted.{OfWrite}
+use Rattle.lsm_runs.specs.Journal.{Event, Map, InOrder}
+use Rattle.lsm_runs.specs.Sound.{Holds}
+use Rattle.lsm_runs.specs.Soundness.{HoldsIsKept}
+use Rattle.lsm_runs.specs.Steps.{IsOpened}
+use Rattle.lsm_runs.specs.Views.{held}
+use Rattle.lsm_runs.specs.Levels.{Levels, placed_of}
+use Rattle.lsm_runs.specs.Finding.{Finds}
+use Rattle.lsm_runs.specs.Ready.{OpeningLeaves}
+use Rattle.lsm_runs.specs.Stored.{IsStored}
+use Rattle.lsm_runs.specs.Core.{Core, state_of, versions_left, written_of}
+use Rattle.lsm_runs.specs.Composing.{AreNumbered}
+use Rattle.lsm_runs.specs.Following.{MomentsJoin}
 use Rattle.lsm_run_model.specs.Moments.{EachMoment, last_of}
-use Rattle.lsm_run_model.specs.Outcomes.{Past, nothing, after, after_all, is_no_low_read, without_low_reads}
-use Rattle.lsm_run_model.specs.Outcomes as out
-use Rattle.lsm_run_model.specs.Rising.{Asks, EachUses}
+use Rattle.lsm_runs.specs.Outcomes.{Past, nothing, after, after_all, is_no_low_read, without_low_reads}
+use Rattle.lsm_runs.specs.Outcomes as out
+use Rattle.lsm_runs.specs.Rising.{Asks, EachUses}
 use Rattle.lsm_runs.specs.declared.steps.Step.{Step}
 use Rattle.lsm_runs.specs.declared.steps.Step.TheVariants.{ClearActiveMemtable}
 use Rattle.lsm_runs.specs.declared.steps.Reply.{Reply}

@@ -1,15 +1,15 @@
 -- What was taken step by step is a life, as a run of all of it is one.
 use Rattle.std.proofs.Common.{◌≡◌, ℕ, zero, suc, ◌+◌, ◌^◌, arith, List, [], ◌∷◌, ◌++◌, map, take, length, refl, sym, ap, ◌∙◌, subst}
 use Rattle.std.specs.List.{AllByRecursion}
-use Rattle.lsm_below.specs.Each.{each_left}
-use Rattle.lsm_below.specs.Entries.{Entry, above}
-use Rattle.lsm_store.specs.World.{World}
-use Rattle.lsm_model.specs.Journal.{Event, Map, InOrder}
-use Rattle.lsm_state.specs.Core.{Core}
-use Rattle.lsm_run_model.specs.Composing.{AreNumbered}
-use Rattle.lsm_run_model.specs.Outcomes.{Past, nothing, after, after_all, without_low_reads}
-use Rattle.lsm_run_model.specs.Outcomes as out
-use Rattle.lsm_run_model.specs.Rising.{At, RisesFrom, RisingIsInOrder, OrderWithoutReads}
+use Rattle.lsm_runs.specs.Each.{each_left}
+use Rattle.lsm_runs.specs.Entries.{Entry, above}
+use Rattle.lsm_runs.specs.World.{World}
+use Rattle.lsm_runs.specs.Journal.{Event, Map, InOrder}
+use Rattle.lsm_runs.specs.Core.{Core}
+use Rattle.lsm_runs.specs.Composing.{AreNumbered}
+use Rattle.lsm_runs.specs.Outcomes.{Past, nothing, after, after_all, without_low_reads}
+use Rattle.lsm_runs.specs.Outcomes as out
+use Rattle.lsm_runs.specs.Rising.{At, RisesFrom, RisingIsInOrder, OrderWithoutReads}
 use Rattle.lsm_runs.specs.declared.steps.Step.{Step}
 use Rattle.lsm_runs.specs.declared.steps.Reply.{Reply}
 use Rattle.lsm_runs.specs.Drawing.{asks_of}

@@ -1,10 +1,10 @@
 -- Steps that keep the order: usual ones do, and so do the first so many.
 use Rattle.std.proofs.Common.{◌≡◌, ⊎_elim, inl, inr, ℕ, zero, suc, ◌+◌, ◌≤◌, max, arith, List, [], ◌∷◌, ◌++◌, map, take, subst, sym}
 use Rattle.std.specs.List.{AllByRecursion}
-use Rattle.lsm_below.specs.Entries.{Entry, above}
-use Rattle.lsm_below.specs.Keys.{Bytes}
-use Rattle.lsm_below.specs.Members.{IsIn}
-use Rattle.lsm_run_model.specs.Rising.{Drawing, Silent, Own, Raises, Reserves, Draws, Standing, At, UpTo, most, moved, unused, highest, MayDraw, RisesFrom, WeakOnce}
+use Rattle.lsm_runs.specs.Entries.{Entry, above}
+use Rattle.lsm_runs.specs.Keys.{Bytes}
+use Rattle.lsm_runs.specs.Members.{IsIn}
+use Rattle.lsm_runs.specs.Rising.{Drawing, Silent, Own, Raises, Reserves, Draws, Standing, At, UpTo, most, moved, unused, highest, MayDraw, RisesFrom, WeakOnce}
 use Rattle.lsm_runs.specs.declared.steps.Step.{Step}
 use Rattle.lsm_runs.specs.declared.steps.Step.TheVariants.{ClearActiveMemtable}
 use Rattle.lsm_runs.specs.Drawing.{drawing_of, keys_set, keys_weak, asks_of}

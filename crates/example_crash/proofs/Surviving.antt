@@ -2,23 +2,23 @@
 use Rattle.std.proofs.Common.{◌≡◌, ⊎_elim, inl, ℕ, ◌+◌, ◌≤◌, ◌^◌, arith, List, [], ◌∷◌, codes, map, take, length, refl, sym, ap, ◌∙◌, subst}
 use Rattle.std.specs.FinMap.{empty}
 use Rattle.std.specs.List.{AllByRecursion}
-use Rattle.lsm_below.specs.Entries.{above}
-use Rattle.lsm_below.specs.declared.error.Error.{Error}
-use Rattle.lsm_store.specs.Memory.{MemStore, world_of}
-use Rattle.lsm_store.specs.World.{Image, IsImage, Begins}
+use Rattle.lsm_runs.specs.Entries.{above}
+use Rattle.lsm_runs.specs.Error.{Error}
+use Rattle.lsm_runs.specs.Memory.{MemStore, world_of}
+use Rattle.lsm_runs.specs.World.{Image, IsImage, Begins}
 use Rattle.lsm_store.proofs.Memories.{gives_now}
-use Rattle.lsm_model.specs.Journal.{Map}
-use Rattle.lsm_model.specs.Beginnings.{IsBeginning, covered}
-use Rattle.lsm_model.specs.Views.{held}
-use Rattle.lsm_versions.specs.Levels.{empty_levels, placed_of}
-use Rattle.lsm_manifest.specs.Finding.{Finds, Nothing, StandsForMap, RefusesFound, FoundOnce}
-use Rattle.lsm_manifest.specs.Names.{current_name}
-use Rattle.lsm_manifest.specs.Ready.{IsReady}
+use Rattle.lsm_runs.specs.Journal.{Map}
+use Rattle.lsm_runs.specs.Beginnings.{IsBeginning, covered}
+use Rattle.lsm_runs.specs.Views.{held}
+use Rattle.lsm_runs.specs.Levels.{empty_levels, placed_of}
+use Rattle.lsm_runs.specs.Finding.{Finds, Nothing, StandsForMap, RefusesFound, FoundOnce}
+use Rattle.lsm_runs.specs.Names.{current_name}
+use Rattle.lsm_runs.specs.Ready.{IsReady}
 use Rattle.lsm_manifest.proofs.FindingLemmas.{finds_nothing, nothing_stands, nothing_in as none}
 use Rattle.lsm_run_model.specs.Lives.{End, Crashed, Killed, EndsIn, MayBe, IsKill, Running, LifeAfterLife}
 use Rattle.lsm_run_model.specs.Moments.{last_of}
-use Rattle.lsm_run_model.specs.Outcomes.{nothing, after_all}
-use Rattle.lsm_run_model.specs.Rising.{At}
+use Rattle.lsm_runs.specs.Outcomes.{nothing, after_all}
+use Rattle.lsm_runs.specs.Rising.{At}
 use Rattle.lsm_runs.specs.declared.steps.Step.{Step}
 use Rattle.lsm_runs.specs.declared.steps.Reply.{Reply}
 use Rattle.lsm_runs.specs.Lives.{AreSteps, AnyNumberOfLives, LivedSo, LivesInOrder, Rise, told_of}

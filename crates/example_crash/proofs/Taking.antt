@@ -1,19 +1,19 @@
 -- A run of one step, by what it does to a tree and its store.
 use Rattle.std.proofs.Common.{◌≡◌, ℕ, ◌<◌, ◌≤◌, ◌^◌, arith, List, [], ◌∷◌, ◌++◌, map, take, length, sym, ap, subst}
 use Rattle.std.specs.List.{AllByRecursion}
-use Rattle.lsm_below.specs.Each.{each_left}
-use Rattle.lsm_below.specs.Entries.{Entry}
-use Rattle.lsm_store.specs.World.{World}
-use Rattle.lsm_model.specs.Counted.{OfWrite}
-use Rattle.lsm_model.specs.Journal.{Event, Map, InOrder}
-use Rattle.lsm_commit.specs.Stored.{IsStored}
-use Rattle.lsm_state.specs.Core.{Core, versions_left, written_of}
-use Rattle.lsm_run_model.specs.Composing.{AreNumbered}
+use Rattle.lsm_runs.specs.Each.{each_left}
+use Rattle.lsm_runs.specs.Entries.{Entry}
+use Rattle.lsm_runs.specs.World.{World}
+use Rattle.lsm_runs.specs.Counted.{OfWrite}
+use Rattle.lsm_runs.specs.Journal.{Event, Map, InOrder}
+use Rattle.lsm_runs.specs.Stored.{IsStored}
+use Rattle.lsm_runs.specs.Core.{Core, versions_left, written_of}
+use Rattle.lsm_runs.specs.Composing.{AreNumbered}
 use Rattle.lsm_run_model.specs.Moments.{EachMoment, last_of}
-use Rattle.lsm_run_model.specs.Outcomes.{Past, after}
-use Rattle.lsm_run_model.specs.Outcomes as out
-use Rattle.lsm_run_model.specs.Rising.{EachUses}
-use Rattle.lsm_run_model.specs.declared.noted.Noted.{Noted}
+use Rattle.lsm_runs.specs.Outcomes.{Past, after}
+use Rattle.lsm_runs.specs.Outcomes as out
+use Rattle.lsm_runs.specs.Rising.{EachUses}
+use Rattle.lsm_runs.specs.Noted.{Noted}
 use Rattle.lsm_runs.specs.declared.steps.JobStep.TheVariants as job
 use Rattle.lsm_runs.specs.declared.steps.Step.{Step}
 use Rattle.lsm_runs.specs.declared.steps.Step.TheVariants as step

@@ -1,10 +1,10 @@
 -- Of usual steps the numbers rise, none removes a key weakly, and the first so many are usual.
 use Rattle.std.proofs.Common.{◌≡◌, ℕ, zero, suc, ◌≤◌, arith, List, [], ◌∷◌, map, take, length, refl, ap, sym, subst}
 use Rattle.std.specs.List.{AllByRecursion}
-use Rattle.lsm_below.specs.Keys.{Bytes}
-use Rattle.lsm_below.specs.Entries.{Entry}
-use Rattle.lsm_below.specs.Members.{each_in}
-use Rattle.lsm_run_model.specs.Rising.{Standing, moved, unused, MayDraw, RisesFrom, WeakOnce}
+use Rattle.lsm_runs.specs.Keys.{Bytes}
+use Rattle.lsm_runs.specs.Entries.{Entry}
+use Rattle.lsm_runs.specs.Members.{each_in}
+use Rattle.lsm_runs.specs.Rising.{Standing, moved, unused, MayDraw, RisesFrom, WeakOnce}
 use Rattle.lsm_runs.specs.declared.steps.JobStep.{JobStep}
 use Rattle.lsm_runs.specs.declared.steps.JobStep.TheVariants.{RegisterTables, BeginCompaction, FinishCompaction}
 use Rattle.lsm_runs.specs.declared.steps.Step.{Step}

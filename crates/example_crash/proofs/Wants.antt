@@ -1,16 +1,16 @@
 -- What is found below 2^63 is refused only for want of memory, or where a call of the store failed.
 use Rattle.std.proofs.Common.{ℕ, ◌+◌, ◌<◌, ◌≤◌, ◌^◌, arith, List, [], ◌∷◌, ◌++◌, map}
 use Rattle.std.specs.List.{AllByRecursion, flat_map}
-use Rattle.lsm_below.specs.Each.{each_append, each_left, each_right}
-use Rattle.lsm_below.specs.Entries.{Entry, above}
-use Rattle.lsm_below.specs.declared.error.Error.{Error}
-use Rattle.lsm_below.specs.declared.error.Error.TheVariants.{OutOfMemory, Store, CommitUnknown, OutOfNumbers}
-use Rattle.lsm_store.specs.World.{Image}
-use Rattle.lsm_tables.specs.Tables.{SeenTable}
-use Rattle.lsm_model.specs.Views.{Table, Placed, placed_at, placed_from, held}
-use Rattle.lsm_versions.specs.Levels.{Levels, shown_table, shown_levels, placed_of}
-use Rattle.lsm_manifest.specs.Finding.{Finds, RefusesFound}
-use Rattle.lsm_manifest.specs.Standing.{HasSmallNumbers}
+use Rattle.lsm_runs.specs.Each.{each_append, each_left, each_right}
+use Rattle.lsm_runs.specs.Entries.{Entry, above}
+use Rattle.lsm_runs.specs.Error.{Error}
+use Rattle.lsm_runs.specs.Error.TheVariants.{OutOfMemory, Store, CommitUnknown, OutOfNumbers}
+use Rattle.lsm_runs.specs.World.{Image}
+use Rattle.lsm_runs.specs.Tables.{SeenTable}
+use Rattle.lsm_runs.specs.Views.{Table, Placed, placed_at, placed_from, held}
+use Rattle.lsm_runs.specs.Levels.{Levels, shown_table, shown_levels, placed_of}
+use Rattle.lsm_runs.specs.Finding.{Finds, RefusesFound}
+use Rattle.lsm_runs.specs.Standing.{HasSmallNumbers}
 use Rattle.example_crash.specs.Survival.{IsWant}
 
 abbrev Low : Entry → Type 0

@@ -1,15 +1,15 @@
 -- Runs of one step each, one after the other, are a run of all their steps.
 use Rattle.std.specs.Prelude.{◌≡◌, ◌≤◌, ◌^◌, ℕ, List, [], ◌∷◌, ◌++◌, None}
-use Rattle.lsm_below.specs.Entries.{Entry, above}
-use Rattle.lsm_store.specs.World.{World}
-use Rattle.lsm_model.specs.Journal.{Map}
-use Rattle.lsm_model.specs.Steps.{IsOpened}
-use Rattle.lsm_model.specs.Views.{held}
-use Rattle.lsm_versions.specs.Levels.{Levels, placed_of}
-use Rattle.lsm_manifest.specs.Finding.{Finds}
-use Rattle.lsm_manifest.specs.Ready.{OpeningLeaves}
-use Rattle.lsm_commit.specs.Stored.{IsStored}
-use Rattle.lsm_state.specs.Core.{Core, state_of, versions_left, written_of}
+use Rattle.lsm_runs.specs.Entries.{Entry, above}
+use Rattle.lsm_runs.specs.World.{World}
+use Rattle.lsm_runs.specs.Journal.{Map}
+use Rattle.lsm_runs.specs.Steps.{IsOpened}
+use Rattle.lsm_runs.specs.Views.{held}
+use Rattle.lsm_runs.specs.Levels.{Levels, placed_of}
+use Rattle.lsm_runs.specs.Finding.{Finds}
+use Rattle.lsm_runs.specs.Ready.{OpeningLeaves}
+use Rattle.lsm_runs.specs.Stored.{IsStored}
+use Rattle.lsm_runs.specs.Core.{Core, state_of, versions_left, written_of}
 use Rattle.lsm_runs.specs.declared.steps.Step.{Step}
 use Rattle.lsm_runs.specs.After.{RunIsRight}
 use Rattle.lsm_runs.specs.Compacting.{Strategies}

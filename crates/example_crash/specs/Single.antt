@@ -1,16 +1,16 @@
 -- What a caller has who takes steps one by one, each by a run of its own: what he has taken so far is a life, as one run of it is.
 use Rattle.std.specs.Prelude.{◌≡◌, ℕ, ◌≤◌, ◌^◌, max, List, [], map}
 use Rattle.std.specs.List.{AllByRecursion}
-use Rattle.lsm_below.specs.Entries.{Entry, above}
-use Rattle.lsm_store.specs.Memory.{MemStore, may_of, world_of}
-use Rattle.lsm_store.specs.World.{Image, IsImage}
-use Rattle.lsm_model.specs.Journal.{Map}
-use Rattle.lsm_model.specs.Views.{held}
-use Rattle.lsm_versions.specs.Levels.{Levels, placed_of}
-use Rattle.lsm_manifest.specs.Finding.{Finds, StandsForMap}
-use Rattle.lsm_manifest.specs.Ready.{IsReady}
-use Rattle.lsm_state.specs.Core.{Seen}
-use Rattle.lsm_run_model.specs.Rising.{At, RisesFrom, highest}
+use Rattle.lsm_runs.specs.Entries.{Entry, above}
+use Rattle.lsm_runs.specs.Memory.{MemStore, may_of, world_of}
+use Rattle.lsm_runs.specs.World.{Image, IsImage}
+use Rattle.lsm_runs.specs.Journal.{Map}
+use Rattle.lsm_runs.specs.Views.{held}
+use Rattle.lsm_runs.specs.Levels.{Levels, placed_of}
+use Rattle.lsm_runs.specs.Finding.{Finds, StandsForMap}
+use Rattle.lsm_runs.specs.Ready.{IsReady}
+use Rattle.lsm_runs.specs.Core.{Seen}
+use Rattle.lsm_runs.specs.Rising.{At, RisesFrom, highest}
 use Rattle.lsm_runs.specs.declared.steps.Step.{Step}
 use Rattle.lsm_runs.specs.Drawing.{drawing_of, keys_weak}
 use Rattle.lsm_runs.specs.Lives.{Rise, LivesInOrder}

@@ -1,22 +1,22 @@
 -- What is known of a tree that was opened and took steps, each by a run of its own, so that its caller acts between them.
 use Rattle.std.specs.Prelude.{◌≡◌, ℕ, ◌≤◌, ◌^◌, List, [], ◌∷◌, map, take, length}
 use Rattle.std.specs.FinMap.{get}
-use Rattle.lsm_below.specs.Keys.{Bytes}
-use Rattle.lsm_below.specs.Entries.{Entry, above}
-use Rattle.lsm_store.specs.World.{World}
-use Rattle.lsm_model.specs.Journal.{Map, InOrder}
-use Rattle.lsm_model.specs.Sound.{Holds}
-use Rattle.lsm_model.specs.Views.{held, view_at}
-use Rattle.lsm_versions.specs.Levels.{Levels, placed_of}
-use Rattle.lsm_manifest.specs.Finding.{Finds}
-use Rattle.lsm_manifest.specs.Ready.{OpeningLeaves}
-use Rattle.lsm_commit.specs.Stored.{IsStored}
-use Rattle.lsm_state.specs.Core.{Core, state_of, versions_left, written_of}
-use Rattle.lsm_run_model.specs.Composing.{AreNumbered}
+use Rattle.lsm_runs.specs.Keys.{Bytes}
+use Rattle.lsm_runs.specs.Entries.{Entry, above}
+use Rattle.lsm_runs.specs.World.{World}
+use Rattle.lsm_runs.specs.Journal.{Map, InOrder}
+use Rattle.lsm_runs.specs.Sound.{Holds}
+use Rattle.lsm_runs.specs.Views.{held, view_at}
+use Rattle.lsm_runs.specs.Levels.{Levels, placed_of}
+use Rattle.lsm_runs.specs.Finding.{Finds}
+use Rattle.lsm_runs.specs.Ready.{OpeningLeaves}
+use Rattle.lsm_runs.specs.Stored.{IsStored}
+use Rattle.lsm_runs.specs.Core.{Core, state_of, versions_left, written_of}
+use Rattle.lsm_runs.specs.Composing.{AreNumbered}
 use Rattle.lsm_run_model.specs.Moments.{EachMoment, last_of}
-use Rattle.lsm_run_model.specs.Outcomes.{nothing, after_all}
-use Rattle.lsm_run_model.specs.Outcomes as out
-use Rattle.lsm_run_model.specs.Rising.{EachUses}
+use Rattle.lsm_runs.specs.Outcomes.{nothing, after_all}
+use Rattle.lsm_runs.specs.Outcomes as out
+use Rattle.lsm_runs.specs.Rising.{EachUses}
 use Rattle.lsm_runs.specs.declared.steps.Step.{Step}
 use Rattle.lsm_runs.specs.declared.steps.Reply.{Reply}
 use Rattle.lsm_runs.specs.Drawing.{asks_of}

@@ -1,16 +1,16 @@
 -- What outlives a process, as a user asks it: derived from the contracts of public calls.
 use Rattle.std.specs.Prelude.{◌≡◌, List, [], Option, Result, map, take, length, IfOk, IfSome, MatchOption, MatchResult}
 use Rattle.std.specs.FinMap.{empty}
-use Rattle.lsm_below.specs.Entries.{Entry}
-use Rattle.lsm_below.specs.declared.error.Error.{Error}
-use Rattle.lsm_below.specs.declared.error.Error.TheVariants.{OutOfMemory, Store, CommitUnknown}
-use Rattle.lsm_store.specs.Memory.{MemStore, may_of, world_of}
-use Rattle.lsm_store.specs.Picks.{Picks, picked}
-use Rattle.lsm_store.specs.World.{IsImage}
-use Rattle.lsm_model.specs.Journal.{Map}
-use Rattle.lsm_model.specs.Beginnings.{IsBeginning, covered}
-use Rattle.lsm_run_model.specs.Outcomes.{nothing, after_all}
-use Rattle.lsm_run_model.specs.Outcomes as out
+use Rattle.lsm_runs.specs.Entries.{Entry}
+use Rattle.lsm_runs.specs.Error.{Error}
+use Rattle.lsm_runs.specs.Error.TheVariants.{OutOfMemory, Store, CommitUnknown}
+use Rattle.lsm_runs.specs.Memory.{MemStore, may_of, world_of}
+use Rattle.lsm_runs.specs.Picks.{Picks, picked}
+use Rattle.lsm_runs.specs.World.{IsImage}
+use Rattle.lsm_runs.specs.Journal.{Map}
+use Rattle.lsm_runs.specs.Beginnings.{IsBeginning, covered}
+use Rattle.lsm_runs.specs.Outcomes.{nothing, after_all}
+use Rattle.lsm_runs.specs.Outcomes as out
 use Rattle.lsm_runs.specs.declared.steps.Step.{Step}
 use Rattle.lsm_runs.specs.declared.steps.Step.TheVariants.{Insert, Remove, RemoveWeak, AppendEntry, Write, Next, Set, FetchMax, ClearActiveMemtable}
 use Rattle.lsm_runs.specs.declared.steps.Reply.{Reply}

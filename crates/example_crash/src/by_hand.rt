@@ -1,9 +1,9 @@
 // Two lives of a tree over a store in memory, in which the caller chooses the numbers of his writes.
 ghost use Rattle.std.specs.Prelude.{[], None, map};
 ghost use Rattle.std.specs.List.{AllByRecursion};
-ghost use Rattle.lsm_store.specs.Memory.{world_of};
-ghost use Rattle.lsm_store.specs.World.{Begins};
-ghost use Rattle.lsm_run_model.specs.Rising.{At, highest};
+ghost use Rattle.lsm_runs.specs.Memory.{world_of};
+ghost use Rattle.lsm_runs.specs.World.{Begins};
+ghost use Rattle.lsm_runs.specs.Rising.{At, highest};
 ghost use Rattle.lsm_runs.specs.Drawing.{drawing_of};
 ghost use Rattle.example_crash.specs.Single.{KeepsOrder, KeepsOrderAbove};
 ghost use Rattle.example_crash.specs.Survival.{IsUsual, SurvivesOrWants, CrashesAsPicked};

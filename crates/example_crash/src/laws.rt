@@ -1,9 +1,9 @@
 // What is known of steps that are taken one by one, as the contracts of functions that do nothing.
 ghost use Rattle.std.specs.Prelude.{ℕ, List, None};
 ghost use Rattle.std.specs.FinMap.{empty};
-ghost use Rattle.lsm_store.specs.Memory.{MemStore as Memory, may_of, world_of};
-ghost use Rattle.lsm_store.specs.World.{Image, IsImage, Begins};
-ghost use Rattle.lsm_model.specs.Journal.{Map};
+ghost use Rattle.lsm_runs.specs.Memory.{MemStore as Memory, may_of, world_of};
+ghost use Rattle.lsm_runs.specs.World.{Image, IsImage, Begins};
+ghost use Rattle.lsm_runs.specs.Journal.{Map};
 ghost use Rattle.lsm_runs.specs.declared.steps.Step.{Step};
 ghost use Rattle.lsm_runs.specs.Told.{Told};
 ghost use Rattle.lsm_runs.specs.Compacting.{strategies_of};

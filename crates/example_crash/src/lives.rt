@@ -1,11 +1,11 @@
 // Two lives of a tree over a store in memory.
 ghost use Rattle.std.specs.Prelude.{None, take, length, IfOk, IfErr, MatchResult};
 ghost use Rattle.std.specs.List.{AllByRecursion};
-ghost use Rattle.lsm_model.specs.Journal.{Map};
-ghost use Rattle.lsm_store.specs.Memory.{world_of};
-ghost use Rattle.lsm_store.specs.World.{Begins};
-ghost use Rattle.lsm_manifest.specs.Finding.{StandsForMap, RefusesFound};
-ghost use Rattle.lsm_manifest.specs.Ready.{IsReady};
+ghost use Rattle.lsm_runs.specs.Journal.{Map};
+ghost use Rattle.lsm_runs.specs.Memory.{world_of};
+ghost use Rattle.lsm_runs.specs.World.{Begins};
+ghost use Rattle.lsm_runs.specs.Finding.{StandsForMap, RefusesFound};
+ghost use Rattle.lsm_runs.specs.Ready.{IsReady};
 ghost use Rattle.lsm_runs.specs.Lives.{LivesInOrder};
 ghost use Rattle.example_crash.specs.Survival.{IsUsual, IsWant, AnswersReplay, Survives, SurvivesOrWants, CrashesAsPicked};
 

@@ -1,10 +1,10 @@
 // A tree over a store in memory that takes steps one by one, so that its caller looks at each reply before he takes the next.
 ghost use Rattle.std.specs.Prelude.{◌≡◌, ◌≤◌, ◌++◌, ◌∷◌, ℕ, [], List, None, take, length, IfOk, IfErr, OnOk, OnErr};
 ghost use Rattle.std.specs.List.{AllByRecursion};
-ghost use Rattle.lsm_model.specs.Journal.{Map};
-ghost use Rattle.lsm_manifest.specs.Finding.{RefusesFound};
-ghost use Rattle.lsm_store.specs.Memory.{MemStore as Memory, world_of};
-ghost use Rattle.lsm_store.specs.World.{Begins};
+ghost use Rattle.lsm_runs.specs.Journal.{Map};
+ghost use Rattle.lsm_runs.specs.Finding.{RefusesFound};
+ghost use Rattle.lsm_runs.specs.Memory.{MemStore as Memory, world_of};
+ghost use Rattle.lsm_runs.specs.World.{Begins};
 ghost use Rattle.lsm_runs.specs.declared.steps.Step.{Step};
 ghost use Rattle.lsm_runs.specs.Told.{Told};
 ghost use Rattle.example_crash.specs.Single.{MayBeOpened, HasLived, HasTaken};

@@ -2,23 +2,23 @@
 use Rattle.std.proofs.Common.{◌≡◌, inl, ℕ, zero, suc, List, [], ◌∷◌, ◌++◌, length, take, append_assoc, append-nil, None, refl, sym, ap, ◌∙◌, subst, arith}
 use Rattle.std.specs.FinMap.{empty}
 use Rattle.std.specs.List.{AllByRecursion}
-use Rattle.lsm_below.specs.Entries.{Entry}
-use Rattle.lsm_store.specs.Memory.{MemStore, world_of}
-use Rattle.lsm_store.specs.World.{Image, World, IsImage, Begins}
+use Rattle.lsm_log_runs.specs.Entries.{Entry}
+use Rattle.lsm_log_runs.specs.Memory.{MemStore, world_of}
+use Rattle.lsm_log_runs.specs.World.{Image, World, IsImage, Begins}
 use Rattle.lsm_store.proofs.Memories.{gives_now}
-use Rattle.lsm_model.specs.Journal.{Map}
-use Rattle.lsm_versions.specs.Levels.{SeenVersion}
-use Rattle.lsm_manifest.specs.Names.{current_name}
-use Rattle.lsm_manifest.specs.Versions.{first_version}
-use Rattle.lsm_log.specs.declared.record.Record.{Record}
-use Rattle.lsm_log.specs.LogNames.{record_name}
-use Rattle.lsm_log.specs.Logs.{IsRecordAt}
-use Rattle.lsm_log_model.specs.Records.{logged, opened_by}
-use Rattle.lsm_log_model.specs.Recovery.{HoldsBatches}
-use Rattle.lsm_logged.specs.Meanwhile.{LeavesAsBefore}
-use Rattle.lsm_logged.specs.Opening.{image_read}
+use Rattle.lsm_log_runs.specs.Journal.{Map}
+use Rattle.lsm_log_runs.specs.Levels.{SeenVersion}
+use Rattle.lsm_log_runs.specs.Names.{current_name}
+use Rattle.lsm_log_runs.specs.Versions.{first_version}
+use Rattle.lsm_log_runs.specs.Record.{Record}
+use Rattle.lsm_log_runs.specs.LogNames.{record_name}
+use Rattle.lsm_log_runs.specs.Logs.{IsRecordAt}
+use Rattle.lsm_log_runs.specs.Records.{logged, opened_by}
+use Rattle.lsm_log_runs.specs.Recovery.{HoldsBatches}
+use Rattle.lsm_log_runs.specs.Meanwhile.{LeavesAsBefore}
+use Rattle.lsm_log_runs.specs.Opening.{image_read}
 use Rattle.lsm_run_model.specs.Lives.{Crashed}
-use Rattle.lsm_runs.specs.declared.steps.Reply.{Reply}
+use Rattle.lsm_log_runs.specs.Reply.{Reply}
 use Rattle.lsm_log_runs.specs.declared.steps.LogStep.{LogStep}
 use Rattle.lsm_log_runs.specs.Images.{ReadsLog, MayBeOpened}
 use Rattle.lsm_log_runs.specs.Lives.{IsUsual, LoggedLife, StillKept, OpeningLife, AnyNumberOfLoggedLives, OpeningsAreLoggedLives}

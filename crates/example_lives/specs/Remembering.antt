@@ -1,12 +1,12 @@
 -- What outlives any number of crashes, as a user asks it: derived from the contracts of public calls.
 use Rattle.std.specs.Prelude.{ℕ, ◌<◌, ◌^◌, List, [], ◌∷◌, length, take}
-use Rattle.lsm_below.specs.Entries.{Entry, above}
-use Rattle.lsm_store.specs.Memory.{MemStore, world_of}
-use Rattle.lsm_store.specs.World.{World}
-use Rattle.lsm_model.specs.Journal.{Map}
-use Rattle.lsm_log_model.specs.Recovery.{HoldsBatches}
-use Rattle.lsm_logged.specs.Meanwhile.{LeavesAsBefore}
-use Rattle.lsm_runs.specs.declared.steps.Reply.{Reply}
+use Rattle.lsm_log_runs.specs.Entries.{Entry, above}
+use Rattle.lsm_log_runs.specs.Memory.{MemStore, world_of}
+use Rattle.lsm_log_runs.specs.World.{World}
+use Rattle.lsm_log_runs.specs.Journal.{Map}
+use Rattle.lsm_log_runs.specs.Recovery.{HoldsBatches}
+use Rattle.lsm_log_runs.specs.Meanwhile.{LeavesAsBefore}
+use Rattle.lsm_log_runs.specs.Reply.{Reply}
 use Rattle.lsm_log_runs.specs.declared.steps.LogStep.{LogStep}
 use Rattle.lsm_log_runs.specs.declared.steps.TakenLogged.{TakenLogged}
 use Rattle.lsm_log_runs.specs.Adds.{Adds}

@@ -2,19 +2,17 @@
 ghost use Rattle.std.specs.Prelude.{[], None, IfOk, IfSome};
 ghost use Rattle.std.specs.FinMap.{empty};
 ghost use Rattle.std.specs.List.{AllByRecursion};
-ghost use Rattle.lsm_store.specs.Memory.{world_of};
-ghost use Rattle.lsm_store.specs.World.{Begins};
+ghost use Rattle.lsm_log_runs.specs.Memory.{world_of};
+ghost use Rattle.lsm_log_runs.specs.World.{Begins};
 ghost use Rattle.lsm_log_runs.specs.Images.{MayBeOpened};
 ghost use Rattle.lsm_log_runs.specs.Lives.{IsUsual};
 ghost use Rattle.example_lives.specs.Remembering.{LivesSo, LeadsOn, EachRemembers};
 
-use lsm_below::Error;
 use lsm_log_runs::{
     LogStep, TakenLogged, any_number_of_logged_lives, live_logged, new_logs_open,
     openings_are_logged_lives,
 };
-use lsm_parts::Config;
-use lsm_store::{MemStore, Pick};
+use lsm_state::{Config, Error, MemStore, Pick};
 use std::alloc::{AllocError, Global};
 
 /// A life that is to be lived: calls on a logged tree, and what of these names the crash after them is to leave.

@@ -6,16 +6,14 @@
 mod lives;
 
 ghost use Rattle.std.specs.Prelude.{None};
-ghost use Rattle.lsm_store.specs.Memory.{world_of};
-ghost use Rattle.lsm_store.specs.World.{Begins};
+ghost use Rattle.lsm_log_runs.specs.Memory.{world_of};
+ghost use Rattle.lsm_log_runs.specs.World.{Begins};
 
 use anyhow::Result;
 use lives::{Life, Lived, live_again};
-use lsm_below::{UserKey, UserValue};
 use lsm_log_runs::{LogStep, TakenLogged};
-use lsm_model::{Op, Ops};
 use lsm_runs::Reply;
-use lsm_store::{Fault, MemStore, Pick};
+use lsm_state::{Fault, MemStore, Op, Ops, Pick, UserKey, UserValue};
 use std::alloc::{AllocError, Global};
 
 /// A snapshot that sees all.

@@ -2,22 +2,22 @@
 use Rattle.std.proofs.Common.{◌≡◌, ℕ, false, ◌||◌, List, [], ◌∷◌, map, None, Ok, refl, sym, ap, ◌∙◌, subst, arith}
 use Rattle.std.specs.Option.{is_some}
 use Rattle.std.specs.List.{AllByRecursion}
-use Rattle.lsm_below.specs.Keys.{Bytes}
-use Rattle.lsm_store.specs.World.{Image, World, Begins}
-use Rattle.lsm_model.specs.Ops.{op_entries}
-use Rattle.lsm_model.specs.Views.{Placed}
-use Rattle.lsm_model.specs.declared.op.Op.{Op}
-use Rattle.lsm_model.specs.declared.journal.JournalEntry.TheVariants.{Write}
+use Rattle.lsm_logged.specs.Keys.{Bytes}
+use Rattle.lsm_logged.specs.World.{Image, World, Begins}
+use Rattle.lsm_logged.specs.Ops.{op_entries}
+use Rattle.lsm_logged.specs.Views.{Placed}
+use Rattle.lsm_logged.specs.Op.{Op}
+use Rattle.lsm_logged.specs.JournalEntry.TheVariants.{Write}
 use Rattle.lsm_model.proofs.Crashes.{no_tables_stand}
-use Rattle.lsm_versions.specs.declared.config.Config.{Config}
-use Rattle.lsm_versions.specs.Levels.{SeenVersion, empty_levels, placed_of}
-use Rattle.lsm_manifest.specs.Names.{current_name}
-use Rattle.lsm_log.specs.declared.record.Record.{Record}
-use Rattle.lsm_log.specs.LogNames.{record_name}
+use Rattle.lsm_logged.specs.Config.{Config}
+use Rattle.lsm_logged.specs.Levels.{SeenVersion, empty_levels, placed_of}
+use Rattle.lsm_logged.specs.Names.{current_name}
+use Rattle.lsm_logged.specs.Record.{Record}
+use Rattle.lsm_logged.specs.LogNames.{record_name}
 use Rattle.lsm_log.specs.Logs.{IsRecordAt, IsLogFrom}
-use Rattle.lsm_log_model.specs.Records.{LogImage, LogStands}
-use Rattle.lsm_log_model.specs.Replays.{TablesAloneStand}
-use Rattle.lsm_state.specs.Core.{Core}
+use Rattle.lsm_logged.specs.Records.{LogImage, LogStands}
+use Rattle.lsm_logged.specs.Replays.{TablesAloneStand}
+use Rattle.lsm_logged.specs.Core.{Core}
 use Rattle.lsm_logged.specs.Keeping.{SeenLogged, is_unsure, IsLogOf}
 use Rattle.lsm_logged.specs.Opening.{OpensLogged, CanBeSettled, IsReopenedLog, batch_read, image_read, version_of}
 use Rattle.lsm_logged.specs.Writing.{WritesLogged, WritesAct}

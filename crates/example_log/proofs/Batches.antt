@@ -1,15 +1,15 @@
 -- One batch alone: it is in order on a new tree, and its replay counts all of it.
 use Rattle.std.proofs.Common.{◌≡◌, ℕ, ◌<◌, true, List, [], ◌∷◌, ◌++◌, fold, map, reverse, refl, sym, ap, ◌∙◌, subst, arith, append-nil, lt-ltb}
 use Rattle.std.specs.List.{AllByRecursion}
-use Rattle.lsm_below.specs.Each.{each_filter}
-use Rattle.lsm_below.specs.Entries.{Entry, stack, IsFalling, IsSingle}
-use Rattle.lsm_below.specs.Keys.{Bytes, is_same}
-use Rattle.lsm_model.specs.Beginnings.{beginning, spared_after}
-use Rattle.lsm_model.specs.Journal.{Map, InOrder, changed, map_after, replay}
-use Rattle.lsm_model.specs.declared.journal.JournalEntry.TheVariants.{Write}
+use Rattle.lsm_logged.specs.Each.{each_filter}
+use Rattle.lsm_logged.specs.Entries.{Entry, stack, IsFalling, IsSingle}
+use Rattle.lsm_logged.specs.Keys.{Bytes, is_same}
+use Rattle.lsm_logged.specs.Beginnings.{beginning, spared_after}
+use Rattle.lsm_logged.specs.Journal.{Map, InOrder, changed, map_after, replay}
+use Rattle.lsm_logged.specs.JournalEntry.TheVariants.{Write}
 use Rattle.lsm_model.proofs.Counted.{or_true}
-use Rattle.lsm_log_model.specs.Records.{Batch, HasDistinctKeys, IsRising, LogImage, LogStands, counted, entries_in, entries_of, opened_by}
-use Rattle.lsm_log_model.specs.Replays.{ReplaysAreInOrder}
+use Rattle.lsm_logged.specs.Records.{Batch, HasDistinctKeys, IsRising, LogImage, LogStands, counted, entries_in, entries_of, opened_by}
+use Rattle.lsm_logged.specs.Replays.{ReplaysAreInOrder}
 use Rattle.lsm_log_model.proofs.Batches.{batch_falls, each_entry, each_reverse, since_all}
 
 -- of entries that fall, and have one number, there is one at most

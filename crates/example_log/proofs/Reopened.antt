@@ -4,39 +4,39 @@ use Rattle.std.specs.FinMap.{empty, get}
 use Rattle.std.specs.Option.{option_to_list}
 use Rattle.std.specs.List.{AllByRecursion}
 use Rattle.std.proofs.lemmas.List.Elements.{All-contains}
-use Rattle.lsm_below.specs.Entries.{Entry, above}
-use Rattle.lsm_below.specs.Keys.{Bytes}
-use Rattle.lsm_below.specs.Members.{IsIn}
-use Rattle.lsm_store.specs.World.{Image, World, IsImage}
-use Rattle.lsm_model.specs.Beginnings.{Saved, beginning, is_spared}
-use Rattle.lsm_model.specs.Journal.{InOrder, replay}
-use Rattle.lsm_model.specs.Ops.{op_entries}
-use Rattle.lsm_model.specs.Steps.{ReadsEqualReplay}
-use Rattle.lsm_model.specs.Views.{SuperVersion, found_at, held, shown, sources, walk}
-use Rattle.lsm_model.specs.declared.op.Op.{Op}
-use Rattle.lsm_model.specs.declared.journal.JournalEntry.TheVariants.{Write}
+use Rattle.lsm_logged.specs.Entries.{Entry, above}
+use Rattle.lsm_logged.specs.Keys.{Bytes}
+use Rattle.lsm_logged.specs.Members.{IsIn}
+use Rattle.lsm_logged.specs.World.{Image, World, IsImage}
+use Rattle.lsm_logged.specs.Beginnings.{Saved, beginning, is_spared}
+use Rattle.lsm_logged.specs.Journal.{InOrder, replay}
+use Rattle.lsm_logged.specs.Ops.{op_entries}
+use Rattle.lsm_logged.specs.Steps.{ReadsEqualReplay}
+use Rattle.lsm_logged.specs.Views.{SuperVersion, found_at, held, shown, sources, walk}
+use Rattle.lsm_logged.specs.Op.{Op}
+use Rattle.lsm_logged.specs.JournalEntry.TheVariants.{Write}
 use Rattle.lsm_model.proofs.Above.{above_each}
-use Rattle.lsm_versions.specs.declared.config.Config.{Config}
-use Rattle.lsm_versions.specs.Levels.{SeenVersion, empty_levels, placed_of}
-use Rattle.lsm_manifest.specs.Finding.{Finds}
-use Rattle.lsm_manifest.specs.Names.{current_name}
-use Rattle.lsm_manifest.specs.Standing.{StandsFor}
-use Rattle.lsm_manifest.specs.Versions.{named_levels}
-use Rattle.lsm_commit.specs.Foreign.{AtRest}
-use Rattle.lsm_commit.specs.Stored.{IsStored, HoldsOneOf}
-use Rattle.lsm_log.specs.declared.record.Record.{Record}
-use Rattle.lsm_log_model.specs.Joins.{LogStaysSound}
-use Rattle.lsm_log_model.specs.Logs.{Logged as Log, LostBatch, LogIsSound, IsCertain, HasRecords, MayLeave, Batched, AllActs}
-use Rattle.lsm_log_model.specs.Records.{Batch, LogImage, LogStands, counted, entries_in, logged, opened_by, since}
-use Rattle.lsm_log_model.specs.Recovery.{EveryCrashKeepsBatches, WholeIsLogged, LoggedReadsRight}
-use Rattle.lsm_log_model.specs.Replays.{ReplaysAreInOrder, TablesAloneStand}
+use Rattle.lsm_logged.specs.Config.{Config}
+use Rattle.lsm_logged.specs.Levels.{SeenVersion, empty_levels, placed_of}
+use Rattle.lsm_logged.specs.Finding.{Finds}
+use Rattle.lsm_logged.specs.Names.{current_name}
+use Rattle.lsm_logged.specs.Standing.{StandsFor}
+use Rattle.lsm_logged.specs.Versions.{named_levels}
+use Rattle.lsm_logged.specs.Foreign.{AtRest}
+use Rattle.lsm_logged.specs.Stored.{IsStored, HoldsOneOf}
+use Rattle.lsm_logged.specs.Record.{Record}
+use Rattle.lsm_logged.specs.Joins.{LogStaysSound}
+use Rattle.lsm_logged.specs.Logs.{Logged as Log, LostBatch, LogIsSound, IsCertain, HasRecords, MayLeave, Batched, AllActs}
+use Rattle.lsm_logged.specs.Records.{Batch, LogImage, LogStands, counted, entries_in, logged, opened_by, since}
+use Rattle.lsm_logged.specs.Recovery.{EveryCrashKeepsBatches, WholeIsLogged, LoggedReadsRight}
+use Rattle.lsm_logged.specs.Replays.{ReplaysAreInOrder, TablesAloneStand}
 use Rattle.lsm_log_model.proofs.Batches.{each_entry, each_entries, each_reverse, since_each}
 use Rattle.lsm_log_model.proofs.High.{found_latest}
 use Rattle.lsm_log_model.proofs.Stacks.{above-append}
-use Rattle.lsm_state.specs.Calls.{Gives}
-use Rattle.lsm_state.specs.Core.{Core, latest_of, older_of, state_of, versions_left, written_of}
-use Rattle.lsm_state.specs.Deeds.{saved_of}
-use Rattle.lsm_parts.specs.Held.{entries_of}
+use Rattle.lsm_logged.specs.Calls.{Gives}
+use Rattle.lsm_logged.specs.Core.{Core, latest_of, older_of, state_of, versions_left, written_of}
+use Rattle.lsm_logged.specs.Deeds.{saved_of}
+use Rattle.lsm_logged.specs.Held.{entries_of}
 use Rattle.lsm_logged.specs.Images.{RecordsAreThoseRead, CountedAreRead, VersionIsToldOnce}
 use Rattle.lsm_logged.specs.Keeping.{SeenLogged, KeepsLog, IsLogIn}
 use Rattle.lsm_logged.specs.Meanwhile.{log_is_read}

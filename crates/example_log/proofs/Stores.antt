@@ -1,8 +1,8 @@
 -- A new store, and one that a crash left.
 use Rattle.std.proofs.Common.{inl, sym, subst}
-use Rattle.lsm_store.specs.Memory.{MemStore, world_of}
-use Rattle.lsm_store.specs.World.{Image, World, IsImage, Begins}
-use Rattle.lsm_versions.specs.declared.config.Config.{Config}
+use Rattle.lsm_logged.specs.Memory.{MemStore, world_of}
+use Rattle.lsm_logged.specs.World.{Image, World, IsImage, Begins}
+use Rattle.lsm_logged.specs.Config.{Config}
 
 -- what reads of a new store give could be left of the old one
 pub left_gives : (w new : World) (image : Image) → IsImage w.may image → Begins image new → IsImage w.may new.gives

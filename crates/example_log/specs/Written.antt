@@ -1,18 +1,18 @@
 -- What an acknowledged batch leaves of a new tree, and what may be left of that: what the functions of `lives` hand on.
 use Rattle.std.specs.Prelude.{◌≡◌, ℕ, ◌≤◌, false, List, [], map, None}
-use Rattle.lsm_below.specs.Keys.{Bytes}
-use Rattle.lsm_store.specs.Memory.{MemStore, world_of}
-use Rattle.lsm_store.specs.World.{World, IsImage}
-use Rattle.lsm_model.specs.Ops.{op_entries}
-use Rattle.lsm_model.specs.declared.op.Op.{Op}
-use Rattle.lsm_model.specs.declared.journal.JournalEntry.TheVariants.{Write}
-use Rattle.lsm_versions.specs.Levels.{empty_levels}
-use Rattle.lsm_commit.specs.Foreign.{AtRest}
-use Rattle.lsm_commit.specs.Stored.{IsStored}
-use Rattle.lsm_log_model.specs.Logs.{Logged as Log, IsBatched}
-use Rattle.lsm_log_model.specs.Records.{LogImage}
-use Rattle.lsm_log_model.specs.Replays.{IsReopened}
-use Rattle.lsm_state.specs.Core.{Core, versions_left, written_of}
+use Rattle.lsm_logged.specs.Keys.{Bytes}
+use Rattle.lsm_logged.specs.Memory.{MemStore, world_of}
+use Rattle.lsm_logged.specs.World.{World, IsImage}
+use Rattle.lsm_logged.specs.Ops.{op_entries}
+use Rattle.lsm_logged.specs.Op.{Op}
+use Rattle.lsm_logged.specs.JournalEntry.TheVariants.{Write}
+use Rattle.lsm_logged.specs.Levels.{empty_levels}
+use Rattle.lsm_logged.specs.Foreign.{AtRest}
+use Rattle.lsm_logged.specs.Stored.{IsStored}
+use Rattle.lsm_logged.specs.Logs.{Logged as Log, IsBatched}
+use Rattle.lsm_logged.specs.Records.{LogImage}
+use Rattle.lsm_logged.specs.Replays.{IsReopened}
+use Rattle.lsm_logged.specs.Core.{Core, versions_left, written_of}
 use Rattle.lsm_logged.specs.Keeping.{IsLogOf, KeepsLog}
 use Rattle.lsm_logged.specs.Opening.{CanBeSettled}
 use Rattle.lsm_logged.specs.Writing.{batch_of}

@@ -1,14 +1,13 @@
 // Lives of a logged tree over a store in memory.
 ghost use Rattle.std.specs.Prelude.{List, None, IfOk, IfSome};
-ghost use Rattle.lsm_below.specs.Keys.{Bytes};
-ghost use Rattle.lsm_store.specs.Memory.{world_of};
-ghost use Rattle.lsm_store.specs.World.{Begins};
-ghost use Rattle.lsm_model.specs.declared.op.Op.{Op as OpOf};
+ghost use Rattle.lsm_logged.specs.Keys.{Bytes};
+ghost use Rattle.lsm_logged.specs.Memory.{world_of};
+ghost use Rattle.lsm_logged.specs.World.{Begins};
+ghost use Rattle.lsm_logged.specs.Op.{Op as OpOf};
 ghost use Rattle.lsm_logged.specs.Opening.{OpensLogged};
 ghost use Rattle.example_log.specs.Kept.{HoldsBatch};
 ghost use Rattle.example_log.specs.Written.{HasWritten, WasWritten};
 
-use lsm_below::{Error, UserKey};
 use lsm_commit::crashes_leave_versions;
 use lsm_log_model::{
     every_crash_keeps_batches, log_stays_sound, logged_reads_are_right, replays_are_in_order,
@@ -18,9 +17,7 @@ use lsm_logged::{
     Logged, images_have_logs, logs_can_be_settled, records_are_those_read, versions_are_told_once,
 };
 use lsm_manifest::crashes_settle;
-use lsm_model::Op;
-use lsm_parts::Config;
-use lsm_store::{MemStore, Pick};
+use lsm_state::{Config, Error, MemStore, Op, Pick, UserKey};
 use std::alloc::Global;
 
 /// Opens the logged tree of a store.

@@ -7,10 +7,8 @@ mod lives;
 
 use anyhow::Result;
 use lives::{write_and_crash, write_and_end};
-use lsm_below::{UserKey, UserValue};
 use lsm_logged::Logged;
-use lsm_model::Op;
-use lsm_store::MemStore;
+use lsm_state::{MemStore, Op, UserKey, UserValue};
 use std::alloc::{AllocError, Global};
 
 /// An apple is written.

@@ -1,7 +1,6 @@
 // The files of a tree and its log, and how they are damaged.
 use lsm_manifest::{table_name, write_current};
-use lsm_store::{MemStore, Store, StoreError};
-use lsm_tables::Checksum;
+use lsm_state::{Checksum, MemStore, Store, StoreError};
 use std::alloc::{AllocError, Global};
 
 /// The table a = x at 0, made at 0.

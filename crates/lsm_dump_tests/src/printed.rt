@@ -1,7 +1,7 @@
 // What is printed of a tree, and which arguments are refused.
 use crate::images::{Change, Held, image, store_of};
 use lsm_dump_parts::{Bounds, Plan, Shown, Slice, View, bounds_of, show};
-use lsm_store::MemStore;
+use lsm_state::MemStore;
 use std::alloc::Global;
 use std::test::Fail;
 

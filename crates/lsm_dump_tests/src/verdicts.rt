@@ -1,11 +1,8 @@
 // The verdict on damaged files is that of the calls that open a tree.
 use crate::images::{Change, Held, image, store_of, store_with_sums};
-use lsm_below::Error;
 use lsm_dump_parts::{judge, judge_tree, look_into};
 use lsm_logged::Logged;
-use lsm_parts::Config;
-use lsm_state::TreeState;
-use lsm_store::{MemStore, StoreError};
+use lsm_state::{Config, Error, MemStore, StoreError, TreeState};
 use std::alloc::Global;
 use std::test::Fail;
 

@@ -5,14 +5,14 @@ use Rattle.lsm_below.specs.Members.{IsIn}
 use Rattle.lsm_below.specs.declared.error.Error.{Error}
 use Rattle.lsm_below.specs.declared.error.Error.TheVariants.{Unrecoverable}
 use Rattle.lsm_model.specs.declared.op.Op.{Op}
-use Rattle.lsm_flush.specs.Jobs.{SeenJob, SeenMerged, SeenWritten}
-use Rattle.lsm_flush.specs.declared.jobs.Registered.{Registered as Registry}
-use Rattle.lsm_compaction.specs.Merges.{SeenCompaction}
+use Rattle.lsm_logged.specs.Jobs.{SeenJob, SeenMerged, SeenWritten}
+use Rattle.lsm_logged.specs.Registered.{Registered as Registry}
+use Rattle.lsm_logged.specs.Merges.{SeenCompaction}
 use Rattle.lsm_pick.specs.declared.bounds.OwnedBounds.{OwnedBounds}
 use Rattle.lsm_pick.specs.declared.choice.Choice.{Choice}
 use Rattle.lsm_pick.specs.declared.choice.ChooseError.{ChooseError}
 use Rattle.lsm_pick.specs.Simple.{are_reversed}
-use Rattle.lsm_versions.specs.Levels.{SeenVersion}
+use Rattle.lsm_logged.specs.Levels.{SeenVersion}
 use Rattle.lsm_state.specs.Compactions.{Relation, BeginsCompaction, Finishes}
 use Rattle.lsm_state.specs.Core.{Core, versions_left}
 use Rattle.lsm_state.specs.Flushes.{sealed_ids, Begins, Registers}

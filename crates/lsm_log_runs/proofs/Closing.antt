@@ -10,7 +10,7 @@ use Rattle.lsm_store.specs.World.{World}
 use Rattle.lsm_model.specs.Journal.{Event}
 use Rattle.lsm_model.specs.Beginnings.{Note}
 use Rattle.lsm_commit.specs.Stored.{IsStored}
-use Rattle.lsm_flush.specs.Jobs.{SeenJob}
+use Rattle.lsm_logged.specs.Jobs.{SeenJob}
 use Rattle.lsm_log_model.specs.Logs.{Logged as Log, MayBeDrawn}
 use Rattle.lsm_log_model.specs.Records.{LogImage, opened_by}
 use Rattle.lsm_runs.specs.declared.slots.Job.{Job}

@@ -10,7 +10,7 @@ use Rattle.lsm_store.specs.World.{World, LeavesOnly}
 use Rattle.lsm_model.specs.Journal.{Event}
 use Rattle.lsm_model.specs.Steps.{Action, Rotated, Merged, Moved, DroppedTables, Marked, Maintained, StaysAt}
 use Rattle.lsm_model.specs.Beginnings.{Note}
-use Rattle.lsm_versions.specs.Levels.{SeenVersion}
+use Rattle.lsm_logged.specs.Levels.{SeenVersion}
 use Rattle.lsm_commit.specs.Foreign.{AtRest}
 use Rattle.lsm_commit.specs.Stored.{HoldsOneOf}
 use Rattle.lsm_log_model.specs.Logs.{IsCertain, Act, Did, CommitLost}

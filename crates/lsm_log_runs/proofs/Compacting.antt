@@ -2,7 +2,7 @@
 use Rattle.std.proofs.Common.{◌≡◌, ℕ, ◌<◌, List, Option, Some, Result, Ok, Err, slice_get, refl, sym, subst}
 use Rattle.lsm_below.specs.declared.error.Error.{Error}
 use Rattle.lsm_store.specs.World.{World}
-use Rattle.lsm_compaction.specs.Merges.{SeenCompacted}
+use Rattle.lsm_logged.specs.Merges.{SeenCompacted}
 use Rattle.lsm_pick.specs.declared.choice.Choice.{Choice}
 use Rattle.lsm_pick.specs.declared.choice.ChooseError.{ChooseError}
 use Rattle.lsm_runs.specs.declared.slots.Job.{Job}

@@ -4,7 +4,7 @@ use Rattle.lsm_store.specs.World.{Image, World, IsImage, Begins}
 use Rattle.lsm_store.specs.Moments.{image_same}
 use Rattle.lsm_model.specs.Beginnings.{shown_by}
 use Rattle.lsm_model.specs.Journal.{Map}
-use Rattle.lsm_versions.specs.Levels.{placed_of}
+use Rattle.lsm_logged.specs.Levels.{placed_of}
 use Rattle.lsm_manifest.specs.Finding.{StandsForMap, FoundTablesShow}
 use Rattle.lsm_manifest.specs.Ready.{IsReady}
 use Rattle.lsm_log_model.specs.Records.{LogStands}

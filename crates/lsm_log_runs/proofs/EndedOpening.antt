@@ -4,7 +4,7 @@ use Rattle.std.specs.List.{AllByRecursion}
 use Rattle.std.proofs.lemmas.List.Elements.{Contains-append_right}
 use Rattle.lsm_store.specs.World.{Image, World, IsImage, Begins}
 use Rattle.lsm_model.specs.Journal.{Map}
-use Rattle.lsm_versions.specs.Levels.{Levels as SeenLevels, SeenVersion, empty_levels}
+use Rattle.lsm_logged.specs.Levels.{Levels as SeenLevels, SeenVersion, empty_levels}
 use Rattle.lsm_manifest.specs.Finding.{Finds, FoundOnce, FoundTablesShow, UnreadNamesDontMatter, StandsForMap}
 use Rattle.lsm_manifest.specs.Names.{current_name}
 use Rattle.lsm_manifest.specs.Ready.{IsReady}

@@ -4,7 +4,7 @@ use Rattle.std.specs.List.{AllByRecursion}
 use Rattle.lsm_store.specs.World.{Image, World, Begins}
 use Rattle.lsm_model.specs.Views.{Placed}
 use Rattle.lsm_model.proofs.Crashes.{no_tables_stand}
-use Rattle.lsm_versions.specs.Levels.{SeenVersion, placed_of}
+use Rattle.lsm_logged.specs.Levels.{SeenVersion, placed_of}
 use Rattle.lsm_manifest.specs.Finding.{Nothing}
 use Rattle.lsm_manifest.specs.Names.{current_name}
 use Rattle.lsm_manifest.specs.Ready.{IsReady}

@@ -5,7 +5,7 @@ use Rattle.lsm_store.specs.World.{Image}
 use Rattle.lsm_model.specs.Journal.{Event}
 use Rattle.lsm_model.specs.Views.{Placed}
 use Rattle.lsm_model.specs.Beginnings.{Note, Saved, Stands}
-use Rattle.lsm_versions.specs.Levels.{SeenVersion, placed_of}
+use Rattle.lsm_logged.specs.Levels.{SeenVersion, placed_of}
 use Rattle.lsm_manifest.specs.Finding.{Named}
 use Rattle.lsm_manifest.specs.Names.{current_name}
 use Rattle.lsm_manifest.specs.Standing.{StandsFor}

@@ -8,9 +8,9 @@ use Rattle.lsm_model.specs.Steps.{Maintained}
 use Rattle.lsm_model.specs.Views.{Placed}
 use Rattle.lsm_model.specs.declared.journal.JournalEntry.TheVariants.{Install}
 use Rattle.lsm_commit.specs.Foreign.{AtRest}
-use Rattle.lsm_flush.specs.Jobs.{SeenWritten}
-use Rattle.lsm_flush.specs.declared.jobs.Registered.{Registered as Registry}
-use Rattle.lsm_compaction.specs.Merges.{SeenCompaction}
+use Rattle.lsm_logged.specs.Jobs.{SeenWritten}
+use Rattle.lsm_logged.specs.Registered.{Registered as Registry}
+use Rattle.lsm_logged.specs.Merges.{SeenCompaction}
 use Rattle.lsm_log_model.specs.Logs.{IsCertain, Act, Did, CommitLost}
 use Rattle.lsm_log_model.specs.Records.{LogImage, logged, opened_by}
 use Rattle.lsm_runs.specs.declared.slots.Job.{Job}

@@ -6,7 +6,7 @@ use Rattle.lsm_store.specs.Moments.{weakened}
 use Rattle.lsm_model.specs.Journal.{Event, InOrder}
 use Rattle.lsm_model.specs.Beginnings.{Note, Saved}
 use Rattle.lsm_model.proofs.Crashes.{is_in_behind}
-use Rattle.lsm_versions.specs.Levels.{SeenVersion}
+use Rattle.lsm_logged.specs.Levels.{SeenVersion}
 use Rattle.lsm_manifest.specs.Finding.{FoundOnce, UnreadNamesDontMatter}
 use Rattle.lsm_commit.specs.Foreign.{AtRest}
 use Rattle.lsm_commit.specs.Opening.{StoredIsReady}

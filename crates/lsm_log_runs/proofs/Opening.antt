@@ -3,8 +3,8 @@ use Rattle.std.proofs.Common.{◌≡◌, ⊎_elim, ◌<◌, ◌≤◌, ◌^◌, 
 use Rattle.lsm_below.specs.Entries.{above}
 use Rattle.lsm_store.specs.World.{World, IsImage}
 use Rattle.lsm_model.specs.Journal.{next_number}
-use Rattle.lsm_versions.specs.declared.config.Config.{Config}
-use Rattle.lsm_versions.specs.Levels.{SeenVersion}
+use Rattle.lsm_logged.specs.Config.{Config}
+use Rattle.lsm_logged.specs.Levels.{SeenVersion}
 use Rattle.lsm_log_model.specs.Records.{LogImage, LogStands, logged, opened_by}
 use Rattle.lsm_run_model.specs.Moments.{last_of}
 use Rattle.lsm_run_model.specs.Lives.{LeavesReady}

@@ -5,7 +5,7 @@ use Rattle.std.specs.Prelude.{nat_eq, unwrap_or}
 use Rattle.std.specs.List.{starts_with}
 use Rattle.std.proofs.lemmas.Bool.{both_ways}
 use Rattle.lsm_store.specs.World.{Image, World, IsImage}
-use Rattle.lsm_versions.specs.Levels.{SeenVersion}
+use Rattle.lsm_logged.specs.Levels.{SeenVersion}
 use Rattle.lsm_manifest.specs.Finding.{FoundOnce, UnreadNamesDontMatter}
 use Rattle.lsm_manifest.specs.Ready.{IsReady}
 use Rattle.lsm_manifest.proofs.Readiness.{changed, changed_here, changed_else, changed_is}

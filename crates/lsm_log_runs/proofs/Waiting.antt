@@ -5,12 +5,12 @@ use Rattle.lsm_below.specs.declared.error.Error.{Error}
 use Rattle.lsm_below.specs.declared.error.Error.TheVariants.{OutOfMemory, Unrecoverable}
 use Rattle.lsm_model.specs.Journal.{Event}
 use Rattle.lsm_model.specs.declared.journal.JournalEntry.TheVariants.{Mark}
-use Rattle.lsm_versions.specs.Levels.{SeenVersion}
-use Rattle.lsm_flush.specs.Jobs.{SeenJob, SeenMerged, SeenWritten}
-use Rattle.lsm_compaction.specs.Merges.{SeenCompaction}
+use Rattle.lsm_logged.specs.Levels.{SeenVersion}
+use Rattle.lsm_logged.specs.Jobs.{SeenJob, SeenMerged, SeenWritten}
+use Rattle.lsm_logged.specs.Merges.{SeenCompaction}
 use Rattle.lsm_run_model.specs.Outcomes.{sealed_in}
 use Rattle.lsm_journal.specs.NotedReads.{NotedCompactionsKeepReads}
-use Rattle.lsm_checks.specs.declared.choice.Why.{Why}
+use Rattle.lsm_logged.specs.Why.{Why}
 use Rattle.lsm_pick.specs.declared.choice.Choice.{Choice}
 use Rattle.lsm_pick.specs.declared.choice.Choice.TheVariants.{DoNothing, Move, Merge, Drop}
 use Rattle.lsm_pick.specs.declared.choice.ChooseError.{ChooseError}

@@ -6,8 +6,8 @@ use Rattle.lsm_store.specs.World.{World}
 use Rattle.lsm_model.specs.declared.op.Op.{Op}
 use Rattle.lsm_model.specs.Steps.{Action}
 use Rattle.lsm_commit.specs.Foreign.{AtRest}
-use Rattle.lsm_flush.specs.Jobs.{SeenWritten}
-use Rattle.lsm_compaction.specs.Merges.{SeenCompacted}
+use Rattle.lsm_logged.specs.Jobs.{SeenWritten}
+use Rattle.lsm_logged.specs.Merges.{SeenCompacted}
 use Rattle.lsm_run_model.specs.Moments.{last_of}
 use Rattle.lsm_runs.specs.declared.slots.Job.{Job}
 use Rattle.lsm_runs.specs.declared.slots.Job.TheVariants.{Written, Compacted as CompactedJob}

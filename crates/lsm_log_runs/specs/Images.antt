@@ -5,7 +5,7 @@ use Rattle.lsm_below.specs.Keys.{Bytes}
 use Rattle.lsm_store.specs.World.{Image, World, IsImage}
 use Rattle.lsm_model.specs.Journal.{Map}
 use Rattle.lsm_model.specs.Beginnings.{Stands, beginning, is_spared}
-use Rattle.lsm_versions.specs.Levels.{SeenVersion, placed_of}
+use Rattle.lsm_logged.specs.Levels.{SeenVersion, placed_of}
 use Rattle.lsm_manifest.specs.Finding.{Finds}
 use Rattle.lsm_manifest.specs.Ready.{IsReady}
 use Rattle.lsm_log.specs.declared.record.Record.{Record}

@@ -1,9 +1,9 @@
 -- What a call on the job in a slot may answer and do.
 use Rattle.std.specs.Prelude.{◌≡◌, ℕ, ◌<◌, ◌≤◌, [], Option, Some, None, IsSome, is_some, option_map, Result, Ok, Err}
 use Rattle.lsm_below.specs.declared.error.Error.{Error}
-use Rattle.lsm_flush.specs.Jobs.{SeenJob, SeenMerged, SeenWritten}
-use Rattle.lsm_flush.specs.declared.jobs.Registered.{Registered as Registry}
-use Rattle.lsm_compaction.specs.Merges.{SeenCompaction, SeenCompacted}
+use Rattle.lsm_logged.specs.Jobs.{SeenJob, SeenMerged, SeenWritten}
+use Rattle.lsm_logged.specs.Registered.{Registered as Registry}
+use Rattle.lsm_logged.specs.Merges.{SeenCompaction, SeenCompacted}
 use Rattle.lsm_runs.specs.declared.slots.Job.{Job}
 use Rattle.lsm_runs.specs.declared.slots.Job.TheVariants.{Begun as BegunJob, Merged, Written, Compacted as CompactedJob}
 use Rattle.lsm_runs.specs.declared.steps.JobStep.{JobStep}

@@ -4,8 +4,8 @@ use Rattle.lsm_below.specs.Entries.{above}
 use Rattle.lsm_below.specs.declared.error.Error.{Error}
 use Rattle.lsm_store.specs.World.{World, Begins}
 use Rattle.lsm_model.specs.Journal.{Map}
-use Rattle.lsm_versions.specs.declared.config.Config.{Config}
-use Rattle.lsm_versions.specs.Levels.{SeenVersion}
+use Rattle.lsm_logged.specs.Config.{Config}
+use Rattle.lsm_logged.specs.Levels.{SeenVersion}
 use Rattle.lsm_manifest.specs.Finding.{RefusesFound}
 use Rattle.lsm_log.specs.declared.record.Record.{Record}
 use Rattle.lsm_log_model.specs.Records.{logged, opened_by}

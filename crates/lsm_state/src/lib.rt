@@ -58,7 +58,7 @@ pub use lsm_iter::{
 };
 pub use lsm_model::{JournalEntry, Op, Ops};
 pub use lsm_parts::{
-    Config, Iter, LIMIT, Memtable, SealedMemtables, SequenceNumberCounter, Steps, SuperVersion,
+    Config, Iter, LIMIT, Memtable, SealedMemtables, SequenceNumberCounter, SuperVersion,
     SuperVersions, Version, VersionId,
 };
 pub use lsm_pick::{

@@ -1,7 +1,8 @@
 // Look-ups, sizes and bounds of a memtable, and how many steps its calls take.
 use crate::samples::Edge::{In, Open, Out};
 use crate::samples::{Edge, Entry, bounds, filled, item};
-use lsm_state::{Error, InternalValue, Iter, Memtable, SeqNo, Steps};
+use lsm_memtable::Steps;
+use lsm_state::{Error, InternalValue, Iter, Memtable, SeqNo};
 use std::alloc::Global;
 use std::test::Fail;
 

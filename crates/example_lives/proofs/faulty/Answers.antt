@@ -1,6 +1,6 @@
 use Rattle.std.proofs.Common.{None, sym, subst}
-use Rattle.lsm_store.specs.Memory.{MemStore, world_of}
-use Rattle.lsm_store.specs.World.{Begins}
+use Rattle.lsm_log_runs.specs.Memory.{MemStore, world_of}
+use Rattle.lsm_log_runs.specs.World.{Begins}
 use Rattle.example_lives.proofs.faulty.Goals as goal
 
 pub returns : goal.returns

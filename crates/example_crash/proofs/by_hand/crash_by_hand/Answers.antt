@@ -1,13 +1,13 @@
 use Rattle.std.proofs.Common.{arith, length, take, map, subst, ap}
 use Rattle.std.proofs.lemmas.Result.{err_from_is_err_and}
 use Rattle.std.specs.FinMap.{empty}
-use Rattle.lsm_store.specs.Memory.{MemStore, world_of}
-use Rattle.lsm_store.specs.Picks.{picked, Crashes}
-use Rattle.lsm_store.specs.World.{Begins}
-use Rattle.lsm_model.specs.Journal.{Map}
-use Rattle.lsm_manifest.specs.Finding.{StandsForMap}
+use Rattle.lsm_runs.specs.Memory.{MemStore, world_of}
+use Rattle.lsm_runs.specs.Picks.{picked, Crashes}
+use Rattle.lsm_runs.specs.World.{Begins}
+use Rattle.lsm_runs.specs.Journal.{Map}
+use Rattle.lsm_runs.specs.Finding.{StandsForMap}
 use Rattle.lsm_manifest.proofs.FindingLemmas.{nothing_in as none, nothing_stands}
-use Rattle.lsm_run_model.specs.Rising.{At, highest}
+use Rattle.lsm_runs.specs.Rising.{At, highest}
 use Rattle.lsm_runs.specs.Drawing.{drawing_of}
 use Rattle.example_crash.specs.Single.{MayBeOpened}
 use Rattle.example_crash.proofs.Again.{Settles, survives_again, refused_again}

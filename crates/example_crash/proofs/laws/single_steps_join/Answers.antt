@@ -1,4 +1,4 @@
-use Rattle.lsm_store.specs.Memory.{world_of}
+use Rattle.lsm_runs.specs.Memory.{world_of}
 use Rattle.example_crash.proofs.Joining.{begun, one_more}
 use Rattle.example_crash.proofs.Lived.{lived, answered}
 use Rattle.example_crash.proofs.Taking.{took_one}

@@ -1,7 +1,7 @@
 use Rattle.std.proofs.Common.{length, take, subst}
 use Rattle.std.proofs.lemmas.Result.{err_from_is_err_and}
 use Rattle.std.specs.FinMap.{empty}
-use Rattle.lsm_store.specs.Picks.{picked, Crashes}
+use Rattle.lsm_runs.specs.Picks.{picked, Crashes}
 use Rattle.example_crash.proofs.Usual.{first_usual}
 use Rattle.example_crash.proofs.Surviving.{refused_new, begins_itself, crash_leaves}
 use Rattle.example_crash.proofs.Wants.{wants}

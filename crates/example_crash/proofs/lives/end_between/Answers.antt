@@ -1,7 +1,7 @@
 use Rattle.std.proofs.Common.{length, take, refl}
 use Rattle.std.proofs.lemmas.Result.{err_from_is_err_and}
 use Rattle.std.specs.FinMap.{empty}
-use Rattle.lsm_store.specs.Memory.{world_of}
+use Rattle.lsm_runs.specs.Memory.{world_of}
 use Rattle.lsm_run_model.specs.Lives.{Killed}
 use Rattle.example_crash.proofs.Usual.{first_usual}
 use Rattle.example_crash.proofs.Surviving.{refused_new, survives, stays_ready, ended_now, given_now}

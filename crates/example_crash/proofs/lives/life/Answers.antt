@@ -1,6 +1,6 @@
 use Rattle.std.proofs.Common.{arith, [], length, take}
-use Rattle.lsm_below.specs.Entries.{above}
-use Rattle.lsm_run_model.specs.Rising.{At}
+use Rattle.lsm_runs.specs.Entries.{above}
+use Rattle.lsm_runs.specs.Rising.{At}
 use Rattle.lsm_runs.specs.Living.{opened_in}
 use Rattle.example_crash.proofs.Usual.{first_usual, usual_plain, usual_rises, usual_weak}
 use Rattle.example_crash.proofs.lives.life.Goals as goal

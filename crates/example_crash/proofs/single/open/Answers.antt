@@ -1,5 +1,5 @@
 use Rattle.std.proofs.Common.{[], ap, subst}
-use Rattle.lsm_versions.specs.declared.config.Config.{Config}
+use Rattle.lsm_runs.specs.Config.{Config}
 use Rattle.example_crash.specs.Single.{HasTaken}
 use Rattle.example_crash.proofs.Beginning.{has_opened}
 use Rattle.example_crash.proofs.Carried.{Laws}

@@ -1,6 +1,6 @@
 use Rattle.std.proofs.Common.{◌≡◌, ◌++◌, ℕ, List, take, length}
-use Rattle.lsm_store.specs.Memory.{MemStore}
-use Rattle.lsm_model.specs.Journal.{Map}
+use Rattle.lsm_runs.specs.Memory.{MemStore}
+use Rattle.lsm_runs.specs.Journal.{Map}
 use Rattle.lsm_runs.specs.declared.steps.Step.{Step}
 use Rattle.lsm_runs.specs.Told.{Told}
 use Rattle.example_crash.specs.Single.{HasTaken}

@@ -2,7 +2,7 @@ use Rattle.std.proofs.Common.{IfSome, Option, List, [], ◌∷◌, ◌++◌, tak
 use Rattle.std.specs.List.{AllByRecursion}
 use Rattle.std.proofs.lemmas.List.{take_all, take_more}
 use Rattle.std.proofs.lemmas.List.Elements.{Contains-get_or, All-contains, All-from_recursion}
-use Rattle.lsm_store.specs.Memory.{MemStore, world_of}
+use Rattle.lsm_log_runs.specs.Memory.{MemStore, world_of}
 use Rattle.lsm_log_runs.specs.Lives.{IsUsual}
 use Rattle.example_lives.specs.declared.lives.Life.{Life}
 use Rattle.example_lives.specs.declared.lives.Lived.{Lived}

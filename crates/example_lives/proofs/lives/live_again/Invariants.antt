@@ -1,6 +1,6 @@
 use Rattle.std.proofs.Common.{take}
 use Rattle.std.specs.List.{AllByRecursion}
-use Rattle.lsm_store.specs.Memory.{world_of}
+use Rattle.lsm_log_runs.specs.Memory.{world_of}
 use Rattle.lsm_log_runs.specs.Lives.{IsUsual}
 use Rattle.example_lives.specs.declared.lives.Life.{Life}
 use Rattle.example_lives.proofs.Remembering.{SoFar}

@@ -1,5 +1,5 @@
 use Rattle.std.proofs.Common.{subst}
-use Rattle.lsm_store.specs.Picks.{picked, Crashes}
+use Rattle.lsm_log_runs.specs.Picks.{picked, Crashes}
 use Rattle.example_lives.specs.Remembering.{LivesSo}
 use Rattle.example_lives.proofs.Remembering.{leads_on}
 use Rattle.example_lives.proofs.lives.live_and_crash.Goals as goal

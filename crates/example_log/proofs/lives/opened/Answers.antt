@@ -1,5 +1,5 @@
 use Rattle.std.proofs.Common.{subst}
-use Rattle.lsm_store.specs.Memory.{world_of}
+use Rattle.lsm_logged.specs.Memory.{world_of}
 use Rattle.lsm_logged.specs.Opening.{OpensLogged}
 use Rattle.example_log.proofs.lives.opened.Goals as goal
 

@@ -1,5 +1,5 @@
 use Rattle.std.proofs.lemmas.Result.{IfOk-weaker}
-use Rattle.lsm_store.specs.Memory.{world_of}
+use Rattle.lsm_logged.specs.Memory.{world_of}
 use Rattle.example_log.proofs.Reopened.{holds_batch}
 use Rattle.example_log.proofs.Stores.{now_left, config}
 use Rattle.example_log.proofs.lives.reopened.Goals as goal

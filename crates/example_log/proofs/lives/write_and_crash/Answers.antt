@@ -1,6 +1,6 @@
 use Rattle.std.proofs.Common.{subst}
-use Rattle.lsm_store.specs.Memory.{world_of}
-use Rattle.lsm_store.specs.Picks.{picked, Crashes}
+use Rattle.lsm_logged.specs.Memory.{world_of}
+use Rattle.lsm_logged.specs.Picks.{picked, Crashes}
 use Rattle.example_log.proofs.Stores.{left_gives}
 use Rattle.example_log.proofs.lives.write_and_crash.Goals as goal
 

@@ -1,8 +1,8 @@
 use Rattle.std.proofs.Common.{ap, subst, sym}
 use Rattle.std.specs.FinMap.{empty}
-use Rattle.lsm_store.specs.Memory.{MemStore, world_of}
-use Rattle.lsm_versions.specs.Levels.{SeenVersion}
-use Rattle.lsm_commit.specs.Foreign.{AtRest}
+use Rattle.lsm_logged.specs.Memory.{MemStore, world_of}
+use Rattle.lsm_logged.specs.Levels.{SeenVersion}
+use Rattle.lsm_logged.specs.Foreign.{AtRest}
 use Rattle.lsm_logged.specs.Opening.{version_of}
 use Rattle.example_log.specs.Written.{HasWritten}
 use Rattle.example_log.proofs.Acknowledged.{has_one}
