@@ -7,7 +7,7 @@ use lsm_tree::{Begun, CompactionJob, Error, Gate, Leveled, Major, MergedCompacti
 use std::alloc::{AllocError, Global};
 use std::sync::{Arc, Mutex, Wait};
 use std::test::Fail;
-use std::thread;
+use std::thread::{self, Threads};
 
 /// Gives each job back.
 #[derive(Drop)]
@@ -149,21 +149,28 @@ fn reads_meanwhile(rt: &impl Wait, tree: &Tree, flags: &Flags) -> bool {
     is_begun && is_found
 }
 
-#[test]
-fn no_lock_is_held_while_a_gate_has_the_job(rt: HostRuntime) -> Result<(), Fail> {
-    let alloc = rt.alloc();
-    let tree = open_shared(alloc)?;
-    let filled = set_in_table(&rt, alloc, &tree, "a", "x");
-    assert!(rt; matches!(filled, Ok(())));
+/// Whether a merge ends whose gate waits until a read is answered.
+fn merge_waits_for_read<R: Threads + Wait + Copy + Send + Sync + 'static>(
+    rt: R,
+    alloc: Global,
+    tree: &Tree,
+) -> Result<bool, Fail> {
+    set_in_table(&rt, alloc, tree, "a", "x")?;
     let flags = lower_flags(alloc)?;
     let (one, ones) = (tree.clone()?, Arc::try_clone(&flags)?);
-    let (two, twos) = (tree.clone()?, Arc::try_clone(&flags)?);
     let merge = thread::spawn(&rt, move || merges_behind_get(&rt, &one, &ones))?;
-    let read = thread::spawn(&rt, move || reads_meanwhile(&rt, &two, &twos))?;
-    let (merged, found) = (merge.join(&rt), read.join(&rt));
-    assert!(rt; merged && found);
-    assert!(rt; tree.level_table_count(&rt, 6) == Some(1));
-    drop(flags);
+    let found = reads_meanwhile(&rt, tree, &flags);
+    let merged = merge.join(&rt);
+    Ok(merged && found)
+}
+
+#[test]
+fn no_lock_is_held_while_a_gate_has_the_job(rt: HostRuntime) -> Result<(), Fail> {
+    let tree = open_shared(rt.alloc())?;
+    let merged = merge_waits_for_read(rt, rt.alloc(), &tree);
+    let count = tree.level_table_count(&rt, 6);
     drop(tree);
+    assert!(rt; merged?);
+    assert_eq!(rt; count, Some(1));
     Ok(())
 }
