@@ -12,6 +12,7 @@
 //! | `multi_writer` | where entries are cut into tables |
 //! | `mem_store` | the store in memory: its faults and its crashes |
 //! | `folder_store` | the store over a folder |
+//! | `foreign` | folders that are no tree's, and are refused |
 //! | `samples` | holds no test: what the others make entries, ranges and runs by, and calls of stores |
 #![tactic(auto)]
 
@@ -21,6 +22,8 @@ mod checksums;
 mod entries;
 #[cfg(test)]
 mod folder_store;
+#[cfg(test)]
+mod foreign;
 #[cfg(test)]
 mod images;
 #[cfg(test)]

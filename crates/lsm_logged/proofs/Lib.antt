@@ -3,12 +3,10 @@ pub mod Keeping
 pub mod Acted
 pub mod Replaying
 pub mod Reopening
-pub mod Blaming
 pub mod Removals
 pub mod Known
 pub mod Gone
 pub mod Rising
-pub mod Reached
 pub mod Left
 pub mod Led
 pub mod ClearActs

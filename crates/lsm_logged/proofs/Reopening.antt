@@ -53,14 +53,6 @@ use Rattle.lsm_logged.proofs.Replaying.{small_each}
 reaches_or_not : (from k : ℕ) → (from ≤ k) ⊎ (k < from)
 reaches_or_not from k = elim (nat_lt k from) as (λ t. nat_lt k from ≡ t → (from ≤ k) ⊎ (k < from)) [ true ↦ λ e. inr (grind (arith, nat_tests)) | false ↦ λ e. inl (grind (arith, nat_tests)) ] refl
 
--- what was found, where nothing has changed since
-pub looks_on : (first mid new : World) (f g : Found) → Looks first mid f → Same mid new → g ≡ f → Looks first new g
-looks_on first mid new f g looks same is = record {
-  found = subst (IsFoundIn first.gives) (sym is) looks.found;
-  from = λ there. subst (λ (x : Found). ReadsFrom first.gives x.opened.version) (sym is) (looks.from there);
-  same = same_then first mid new looks.same same;
-}
-
 -- it is a new tree without `current`, and else has the tables that the image has
 pub fresh_in : (image : Image) (f : Found) → IsFoundIn image f → image current_name ≡ None → f.opened.version ≡ first_version
 fresh_in image f is none = by_kind f.is_new is.finds

@@ -6,7 +6,6 @@ pub mod Opening
 pub mod Meanwhile
 pub mod Images
 pub mod Asking
-pub mod Counting
 pub mod Acting
 pub use Rattle.lsm_below.specs.Each
 pub use Rattle.lsm_below.specs.Entries

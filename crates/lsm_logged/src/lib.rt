@@ -7,21 +7,18 @@
 //! | `writes` | its writes |
 //! | `flush` | its flushes, and a clear |
 //! | `compaction` | its compactions |
-//! | `has_records` | whether a store has records that count |
 //! | `removing` | how records that the version has passed are removed |
 //! | `laws` | what is known of a log between two lives, and of an image of it |
 #![tactic(auto)]
 
 mod compaction;
 mod flush;
-mod has_records;
 mod laws;
 mod logged;
 mod opening;
 mod removing;
 mod writes;
 
-pub use has_records::has_log;
 pub use laws::{
     images_have_logs, logs_can_be_settled, records_are_those_read, versions_are_told_once,
 };

@@ -47,14 +47,6 @@ LooksInto image (Err opening.Store) = Unit {0}
 LooksInto image (Err opening.CommitUnknown) = ⊥
 LooksInto image (Err (opening.Fault f)) = LookFault image f
 
--- nothing keeps it from being opened
-abbrev pub IsOpenable : Image → Type 0
-IsOpenable image = (f : Found) × IsFoundIn image f
-
--- something is wrong with a file
-abbrev pub IsDamaged : Image → Type 0
-IsDamaged image = (f : Fault) × LookFault image f
-
 -- found in a store, which was left as it was
 pub record Looks (old new : World) (f : Found) : Type 0 where
   pub found : IsFoundIn old.gives f

@@ -1,7 +1,7 @@
 // A store with one damaged file: each cut, each changed byte and each doubled section. What is refused, and how, is
 // read off the formats.
 
-use crate::opening::{Wanted, answers};
+use crate::opening::answers;
 use crate::samples::{
     FORMAT_3, FORMAT_4, Format, MISMATCH, OTHER, Runs, TABLE, Told, UNRECOVERABLE, change, fill,
     put_version,
@@ -61,7 +61,7 @@ fn tells(
     store: &mut MemStore,
     at: Place,
     bytes: &[u8],
-    wanted: Wanted,
+    wanted: Option<Told>,
 ) -> Result<bool, Fail> {
     put(alloc, store, at, bytes)?;
     answers(alloc, store, wanted)
@@ -125,20 +125,16 @@ fn told_of_byte(at: Place, place: usize, byte: u8) -> Option<Told> {
     }
 }
 
-/// How many places of the file are told, each with a cut there and with two other bytes, up to the first that isn't. A
-/// cut is said to be in the file.
+/// How many places of the file are told, each with a cut there and with two other bytes, up to the first that isn't.
 fn count_told(alloc: Global, store: &mut MemStore, at: Place) -> Result<usize, Fail> {
     let mut bytes = whole(alloc, store, at)?;
     for place in 0..bytes.len() {
-        let cut = Some((told_of_cut(at), at.0));
+        let cut = Some(told_of_cut(at));
         let mut is_well = tells(alloc, store, at, &bytes[..place], cut)?;
         for mask in [1, 255] {
             let byte = bytes[place] ^ mask;
             bytes[place] = byte;
-            let wanted = match told_of_byte(at, place, byte) {
-                Some(told) => Some((told, "")),
-                None => None,
-            };
+            let wanted = told_of_byte(at, place, byte);
             is_well = is_well && tells(alloc, store, at, &bytes, wanted)?;
             bytes[place] = byte ^ mask;
         }
@@ -184,7 +180,7 @@ fn count_doubled(
         }
         let mut bytes = good.get(..to).unwrap_or_default().to_vec(alloc)?;
         bytes.extend_from_slice(good.get(from..).unwrap_or_default())?;
-        if tells(alloc, store, at, &bytes, Some((told, "")))? {
+        if tells(alloc, store, at, &bytes, Some(told))? {
             count = count.saturating_add(1);
         }
     }

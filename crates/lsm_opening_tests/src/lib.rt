@@ -8,6 +8,8 @@
 //! | `trees` | a tree that is opened over a store, its reads and writes |
 //! | `damage` | stores with a damaged file: each cut, each changed byte, each doubled section |
 //! | `older` | a store that was written when files had format 3: its answers, and what its next version is written as |
+//! | `unlogged` | a store that is opened without a log: where its counters start, and that a record that counts keeps it from it |
+//! | `explained` | the file that a refusal over a real folder is explained by |
 //! | `recorded` | a recorded tree that is opened over a store, and the order of its tables |
 //! | `iterators` | what iterators give over tables, memtables and an index, from both ends |
 //! | `holding` | what an iterator owns, and a step that is refused |
@@ -20,6 +22,8 @@
 
 #[cfg(test)]
 mod damage;
+#[cfg(test)]
+mod explained;
 #[cfg(test)]
 mod files;
 #[cfg(test)]
@@ -44,5 +48,7 @@ mod rows;
 mod samples;
 #[cfg(test)]
 mod trees;
+#[cfg(test)]
+mod unlogged;
 #[cfg(test)]
 mod walks;

@@ -5,8 +5,7 @@ use crate::samples::{
     ONE_TABLE, TABLE, Told, UNRECOVERABLE, bytes_of, change, has, has_just, is_told, put_version,
 };
 use lsm_manifest::{
-    damaged_file, get_current_version, open_files, persist_version, recover, table_name,
-    version_name,
+    get_current_version, open_files, persist_version, recover, table_name, version_name,
 };
 use lsm_state::{Config, Error, Fault, MemStore, Store, StoreError, TreeState};
 use std::alloc::Global;
@@ -26,7 +25,7 @@ const NONE: File<'static> = (&NO_TABLE, &[], &[]);
 /// A version with its file in a format, and what is changed then.
 pub fn fill_with(
     alloc: Global,
-    store: &mut MemStore,
+    store: &mut impl Store,
     version: (u64, Format, File<'_>),
     changes: Changes<'_>,
 ) -> Result<(), StoreError> {
@@ -68,7 +67,11 @@ fn is_refused(alloc: Global, store: &mut MemStore, wanted: Told) -> bool {
 }
 
 /// Whether the stores have the same names with the same contents.
-fn are_same(alloc: Global, left: &mut MemStore, right: &mut MemStore) -> Result<bool, StoreError> {
+pub fn are_same(
+    alloc: Global,
+    left: &mut impl Store,
+    right: &mut impl Store,
+) -> Result<bool, StoreError> {
     let names = left.list(alloc)?;
     for name in &names {
         let found = left.read(alloc, name)?;
@@ -79,40 +82,27 @@ fn are_same(alloc: Global, left: &mut MemStore, right: &mut MemStore) -> Result<
     Ok(names.len() == right.list(alloc)?.len())
 }
 
-/// How a store is refused, and which file is said to be damaged, or "" where any may be. None where it is opened.
-pub type Wanted = Option<(Told, &'static str)>;
-
-/// Whether a file is said to be damaged, and it is this one or "".
-fn is_named(damaged: &Option<String>, file: &str) -> bool {
-    match damaged {
-        Some(name) => file.is_empty() || name.as_str() == file,
-        None => false,
-    }
-}
-
 /// Whether what was refused is what is wanted: then each name keeps its content, and else orphans are gone.
 fn is_as(
     alloc: Global,
     store: &mut MemStore,
     before: &mut MemStore,
     found: Option<&Error>,
-    wanted: Wanted,
-) -> Result<bool, Fail> {
-    let damaged = damaged_file(alloc, before)?;
+    wanted: Option<Told>,
+) -> Result<bool, StoreError> {
     match (found, wanted) {
-        (Some(error), Some((told, file))) => Ok(
+        (Some(error), Some(told)) => Ok(
             is_told(error, told)
-                && is_named(&damaged, file)
                 && is_refused(alloc, store, told)
                 && are_same(alloc, store, before)?,
         ),
-        (None, None) => Ok(damaged.is_none() && store.list(alloc)?.len() == 4),
+        (None, None) => Ok(store.list(alloc)?.len() == 4),
         _ => Ok(false),
     }
 }
 
 /// Whether a store like this one is refused so, or opened where nothing is wanted.
-pub fn answers(alloc: Global, before: &mut MemStore, wanted: Wanted) -> Result<bool, Fail> {
+pub fn answers(alloc: Global, before: &mut MemStore, wanted: Option<Told>) -> Result<bool, Fail> {
     let Some(store) = before.crash(&[])? else {
         return Ok(false);
     };
@@ -120,7 +110,7 @@ pub fn answers(alloc: Global, before: &mut MemStore, wanted: Wanted) -> Result<b
     let well = is_as(alloc, &mut store, before, found.as_ref(), wanted);
     drop(found);
     drop(store);
-    well
+    Ok(well?)
 }
 
 /// Whether the store has just the files of a new tree.
@@ -259,7 +249,7 @@ fn refuses(
     let beside: Changes<'_> = &[("tables/3", Some(&TABLE)), ("v4", Some(b"1"))];
     fill_with(alloc, store, version, beside)?;
     change(store, changes)?;
-    answers(alloc, store, Some((told, "")))
+    answers(alloc, store, Some(told))
 }
 
 /// `ONE_TABLE`, `FIRST` and `TABLE`, each without its last byte.
@@ -382,31 +372,6 @@ fn faults_of_a_commit_are_told(rt: HostRuntime) -> Result<(), Fail> {
         let well = is_refused(rt.alloc(), &mut store, (number, "", 0));
         drop(store);
         assert!(rt; well, "{fault:?} at {call}");
-    }
-    Ok(())
-}
-
-/// Whether this name is said to keep a store from being opened that has it beside these.
-fn is_told_of(alloc: Global, names: &[&str], wanted: Option<&str>) -> Result<bool, Fail> {
-    let mut store = MemStore::new(alloc);
-    for name in names {
-        store.replace(*name, b"1")?;
-    }
-    let named = damaged_file(alloc, &mut store)?;
-    Ok(named.as_ref().map(|name| name.as_str()) == wanted)
-}
-
-#[test]
-fn names_that_are_refused_are_told(rt: HostRuntime) -> Result<(), Fail> {
-    let rows: [(&[&str], Option<&str>); 5] = [
-        (&[], None),
-        (&["tables/7", "v3", "notes"], None),
-        (&["tables/7", "tables/05"], Some("tables/05")),
-        (&["tables/05", "version"], Some("version")),
-        (&["tables/05", "current"], Some("current")),
-    ];
-    for (names, wanted) in rows {
-        assert!(rt; is_told_of(rt.alloc(), names, wanted)?, "{wanted:?}");
     }
     Ok(())
 }

@@ -126,7 +126,7 @@ fn layout_of(alloc: Global, levels: Runs, tables: &[&[u8]]) -> Result<Vec<u8>, A
 }
 
 /// This file is the version's, which `current` names with the file's own sum.
-pub fn put_version(store: &mut MemStore, id: u64, file: &[u8]) -> Result<(), StoreError> {
+pub fn put_version(store: &mut impl Store, id: u64, file: &[u8]) -> Result<(), StoreError> {
     let sum = Checksum::of(file).into_u128();
     store.replace(version_name(id).as_str(), file)?;
     store.replace("current", &write_current(id, sum))
@@ -135,7 +135,7 @@ pub fn put_version(store: &mut MemStore, id: u64, file: &[u8]) -> Result<(), Sto
 /// Version 5, whose first two levels have runs of these tables, and their files, from table 3 on.
 pub fn fill(
     alloc: Global,
-    store: &mut MemStore,
+    store: &mut impl Store,
     format: Format,
     levels: Runs,
     tables: &[&[u8]],
@@ -148,7 +148,7 @@ pub fn fill(
     Ok(())
 }
 
-pub fn change(store: &mut MemStore, changes: Changes<'_>) -> Result<(), StoreError> {
+pub fn change(store: &mut impl Store, changes: Changes<'_>) -> Result<(), StoreError> {
     for (name, bytes) in changes {
         match bytes {
             Some(bytes) => store.replace(*name, *bytes)?,

@@ -23,7 +23,9 @@ pub const NAME: &str = "FifoCompaction";
 /// than a limit. The first level has to be one run.
 ///
 /// A table is expired where it was made at or before the moment `now` less the time to live, at least 0: so at
-/// moment 0 any time to live from 1 second on expires the tables that were made at 0.
+/// moment 0 any time to live from 1 second on expires the tables that were made at 0, all of a tree whose moment nobody set.
+///
+/// A table goes with the newest entries of its keys: an older value that a deeper level holds is read again.
 ///
 /// # Examples
 ///

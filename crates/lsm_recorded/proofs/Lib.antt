@@ -16,3 +16,4 @@ pub mod FlushedFiles
 pub mod OpenedLemmas
 pub mod HeldLemmas
 pub mod OpenLemmas
+pub mod Openings

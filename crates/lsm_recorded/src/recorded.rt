@@ -43,7 +43,7 @@ use std::marker::Model;
 /// # Examples
 ///
 /// ```text
-/// let opened = Recorded::open(alloc, Config::new(0, 0, 0), MemStore::new(alloc));
+/// let opened = Recorded::open_unlogged(alloc, Config::new(0, 0, 0), MemStore::new(alloc));
 /// let mut tree = opened.map_err(|refused| refused.0)?;
 /// let mut pass = Pass::new(alloc);
 /// let number = tree.write(&mut pass, vec![in alloc; (key, Op::Set(value))]?)?;

@@ -38,3 +38,5 @@ pub mod ClearReads
 pub mod Raising
 pub mod Causing
 pub mod BehindRecords
+pub mod Blaming
+pub mod Reached

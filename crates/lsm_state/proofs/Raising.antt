@@ -1,12 +1,12 @@
 -- Counters that stand above what was found.
-use Rattle.std.proofs.Common.{◌≡◌, ℕ, ◌+◌, ◌^◌, ◌<◌, ◌≤◌, List, [], ◌∷◌, ◌++◌, max, Result, Ok, Err, IfOk, ap, ◌∙◌, arith}
+use Rattle.std.proofs.Common.{◌≡◌, ℕ, ◌+◌, ◌^◌, ◌<◌, ◌≤◌, List, [], ◌∷◌, ◌++◌, max, Result, Ok, Err, IfOk, ap, sym, subst, ◌∙◌, arith}
 use Rattle.std.specs.List.{AllByRecursion}
 use Rattle.lsm_below.specs.Entries.{Entry, above}
 use Rattle.lsm_below.specs.Optimizes.{tables_of}
 use Rattle.lsm_below.specs.Sums.{capped}
 use Rattle.lsm_tables.specs.Tables.{SeenTable}
 use Rattle.lsm_model.specs.Views.{Placed, placed_at, placed_from, held}
-use Rattle.lsm_versions.specs.Levels.{Levels, placed_of, placed_in, shown_table, shown_levels}
+use Rattle.lsm_versions.specs.Levels.{Levels, SeenVersion, placed_of, placed_in, shown_table, shown_levels}
 use Rattle.lsm_versions.specs.TableLaws.{map_append, placed_cons, held_both, above-append}
 use Rattle.lsm_versions.specs.Configs.{raised}
 use Rattle.lsm_versions.specs.declared.config.Config.{Config}
@@ -58,3 +58,25 @@ seqno_above config (Err e) is small = tt
 pub visible_above : {S E : Type 0} (config : Config) (r : Result (Seen S) E) → IfOk r (λ t. IsRaised config t.core) → IfOk r (λ t. HasSmallNumbers t.core.history.latest.version.levels) → IfOk r (λ t. above (found_entries t.core) ≤ t.core.visible_seqno)
 visible_above config (Ok t) is small = raised_above t.core.history.latest.version.levels config.visible_seqno t.core.visible_seqno small (ap (λ (c : Core). c.visible_seqno) is)
 visible_above config (Err e) is small = tt
+
+-- a tree of what was found, with such a configuration
+module _ {S E : Type 0} (config made : Config) (v : SeenVersion) (next : ℕ) (r : Result (Seen S) E) (is : made ≡ raised (capped (above (held (placed_of v.levels)))) config) where
+  raised_so : IfOk r (λ t. t.core ≡ opened_core made v next) → IfOk r (λ t. IsRaised config t.core)
+  raised_so core = by_answer r core
+    where
+      by_answer : (q : Result (Seen S) E) → IfOk q (λ t. t.core ≡ opened_core made v next) → IfOk q (λ t. IsRaised config t.core)
+      by_answer (Ok t) same = subst (IsRaised config) (sym same) (ap (λ (k : Config). opened_core k v next) is)
+      by_answer (Err e) same = tt
+
+  small_so : IfOk r (λ t. t.core ≡ opened_core made v next) → HasSmallNumbers v.levels → IfOk r (λ t. HasSmallNumbers t.core.history.latest.version.levels)
+  small_so core small = by_answer r core
+    where
+      by_answer : (q : Result (Seen S) E) → IfOk q (λ t. t.core ≡ opened_core made v next) → IfOk q (λ t. HasSmallNumbers t.core.history.latest.version.levels)
+      by_answer (Ok t) same = subst (λ (c : Core). HasSmallNumbers c.history.latest.version.levels) (sym same) small
+      by_answer (Err e) same = tt
+
+  pub found_seqno : IfOk r (λ t. t.core ≡ opened_core made v next) → HasSmallNumbers v.levels → IfOk r (λ t. above (found_entries t.core) ≤ t.core.seqno)
+  found_seqno core small = seqno_above config r (raised_so core) (small_so core small)
+
+  pub found_visible : IfOk r (λ t. t.core ≡ opened_core made v next) → HasSmallNumbers v.levels → IfOk r (λ t. above (found_entries t.core) ≤ t.core.visible_seqno)
+  found_visible core small = visible_above config r (raised_so core) (small_so core small)

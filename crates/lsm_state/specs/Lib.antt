@@ -10,6 +10,7 @@ pub mod Reading
 pub mod Listing
 pub mod ListSteps
 pub mod Opened
+pub mod Unlogged
 pub mod Commits
 pub mod Cleaning
 pub mod Causes

@@ -1,5 +1,5 @@
 -- What opening a tree answers.
-use Rattle.std.specs.Prelude.{◌≡◌, ◌⊎◌, ◌^◌, List, [], ◌∷◌, Result, Ok, Err, IfOk, IfErr}
+use Rattle.std.specs.Prelude.{◌≡◌, ◌⊎◌, ◌^◌, ℕ, List, [], ◌∷◌, Result, Ok, Err, IfOk, IfErr}
 use Rattle.std.specs.FinMap.{get}
 use Rattle.lsm_below.specs.Keys.{Bytes}
 use Rattle.lsm_below.specs.Entries.{Entry, stack, above, IsOrdered, IsSingle}
@@ -9,9 +9,11 @@ use Rattle.lsm_model.specs.Views.{held, sources, view, view_at}
 use Rattle.lsm_model.specs.Steps.{IsOpened}
 use Rattle.lsm_model.specs.Beginnings.{Stands, shown_by}
 use Rattle.lsm_store.specs.World.{Image, World, IsImage, LeavesOnly}
-use Rattle.lsm_versions.specs.Levels.{placed_of}
+use Rattle.lsm_versions.specs.Levels.{Levels as SeenLevels, placed_of}
 use Rattle.lsm_manifest.specs.Told.{Told, TellsOpen}
-use Rattle.lsm_manifest.specs.Opening.{Opens, LeavesStanding}
+use Rattle.lsm_manifest.specs.Opening.{Opens, OpensAs, LeavesStanding}
+use Rattle.lsm_manifest.specs.Recovery.{Levels}
+use Rattle.lsm_manifest.specs.Standing.{HasSmallNumbers, StandsFor}
 use Rattle.lsm_manifest.specs.Finding.{StandsForMap, RefusesFound}
 use Rattle.lsm_manifest.specs.Ready.{IsReady}
 use Rattle.lsm_commit.specs.Stored.{IsStored}
@@ -78,3 +80,7 @@ pub record OpensTree {S : Type 0} (world : S → World) (store : S) (r : Result 
   pub leaves : LeavesStanding (world store) (world (store_left r))
   -- names that are none of the tree's are as they were
   pub passes : IfOk r (λ t. Passes (world store) (world t.store))
+
+-- what stands was found
+abbrev pub FoundStanding : World → FoundFiles → Type 0
+FoundStanding w f = (id : ℕ) (ls : Levels) (ts : SeenLevels) → StandsFor w.gives id ls ts → HasSmallNumbers ts → OpensAs id ls ts (Ok f.opened)

@@ -4,6 +4,7 @@
 //! |-|-|
 //! | `tree` | the tree: its counters, rotation |
 //! | `opening` | how it is opened over a store, and what it says of its version |
+//! | `opening::unlogged` | how it is opened where no record of a log counts |
 //! | `opening::found` | what a store holds of it, before anything is changed |
 //! | `counts` | what is counted of its memtables and tables |
 //! | `writes` | its writes |

@@ -28,10 +28,13 @@ use lsm_store::Store;
 use std::alloc::Global;
 
 impl<S: Store> TreeState<S> {
+    /// Loses writes where the counters start below what the store holds, and acknowledged batches where a record of a log counts:
+    /// `open_unlogged` is the call for any store.
+    ///
     /// The tree that the files of a store hold, or a new one where there is no `current`. Its memtable is empty, its
-    /// counters start where the configuration says: start them above all that the store may hold, else what is written is
-    /// hidden by older entries with greater sequence numbers, and lost at the next merge. `open_raised` does so. Files that
-    /// no version names are removed after all checks. Each named file is read once; from then on reads make no store call.
+    /// counters start where the configuration says: below what is there, what is written is hidden by older entries with greater
+    /// sequence numbers, and lost at the next merge. Files that no version names are removed after all checks. Each named file
+    /// is read once; from then on reads make no store call.
     ///
     /// Refused, it gives the store back beside the error.
     ///
@@ -55,10 +58,10 @@ impl<S: Store> TreeState<S> {
         TreeState::open_so(alloc, config, store, false)
     }
 
+    /// Loses acknowledged batches at the next flush where a record of a log counts, which `open_unlogged` refuses.
+    ///
     /// The tree that the files of a store hold, as `open`, but its counters start above the sequence numbers of all that
-    /// was found, or where the configuration says, if that is higher. So what is written is newer than what is there, and a
-    /// snapshot at the visible counter sees all that is there: this is how a tree is opened again whose counters nobody has
-    /// kept.
+    /// was found, or where the configuration says, if that is higher.
     ///
     /// # Errors
     ///
@@ -92,14 +95,26 @@ impl<S: Store> TreeState<S> {
         ensures counts { Told TellsOpen (CountsStore (S.world store) (S.world (store_left result))) (files_told result) }
     {
         opening_finds(&store);
+        openings_leave_what_was_read(&store);
+        let found = TreeState::look(alloc, store)?;
+        let config = found.config_for(config, raises);
+        TreeState::open_found(config, found)
+    }
+
+    /// The tree of what was found.
+    fn open_found(config: Config, found: Found<S>) -> Result<TreeState<S>, (Error, S)>
+        ensures opens { S.tells → (first : S) → Looks (S.world first) (S.world found.store) found.files → OpensTree S.world first result }
+        ensures core { IfOk result (λ t. t.core ≡ opened_core config found.files.opened.version found.files.opened.next_table_id) }
+        ensures starts { IfOk result (λ t. StartsFrom t.core) }
+        ensures counts { Told TellsOpen (CountsStore (S.world found.store) (S.world (store_left result))) (files_told result) }
+    {
+        opening_finds(found.store());
         opening_starts();
         found_tables_show();
         images_stand_once();
-        openings_pass(&store);
-        openings_leave_what_was_read(&store);
-        let found = TreeState::look(alloc, store)?;
+        openings_pass(found.store());
+        openings_leave_what_was_read(found.store());
         found.version().facts();
-        let config = found.config_for(config, raises);
         found.open(config)
     }
 
@@ -171,3 +186,4 @@ impl<S: Store> TreeState<S> {
 }
 
 mod found;
+mod unlogged;

@@ -27,7 +27,7 @@ use std::marker::Model;
 /// # Examples
 ///
 /// ```text
-/// let opened = TreeState::open(alloc, Config::new(0, 0, 0), MemStore::new(alloc));
+/// let opened = TreeState::open_unlogged(alloc, Config::new(0, 0, 0), MemStore::new(alloc));
 /// let mut tree = opened.map_err(|refused| refused.0)?;
 /// let number = tree.write(vec![in alloc; (key, Op::Set(value))]?)?;
 /// let found = tree.get(b"key", number + 1)?;
@@ -135,7 +135,8 @@ impl<S: Store> TreeState<S> {
         self.moment
     }
 
-    /// Sets the moment at which tables are made from now on, in nanoseconds: a tree asks no clock.
+    /// Sets the moment at which tables are made from now on, in nanoseconds: a tree asks no clock. While it is 0, any time to
+    /// live of `Fifo` expires them.
     pub fn set_moment(&mut self, moment: u64)
         ensures core { self.new.core ≡ record (self.old.core) { moment = moment } }
         ensures store { self.new.store ≡ self.old.store }

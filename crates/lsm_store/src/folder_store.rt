@@ -7,18 +7,19 @@ ghost use Rattle.lsm_store.specs.World.{Counts};
 use crate::{Store, StoreError};
 use bytes::Bytes;
 use disk::Failure;
+use lsm_below::Error;
+use names::{FRESH, OLDER, find_foreign, find_odd, find_record};
 use std::alloc::{AllocError, Global};
 use std::fs::{File, Files};
 use std::io::{self, ErrorKind};
 
 mod disk;
 mod fault;
+mod names;
 
 pub use disk::{SUBFOLDERS, list_files, path_below, read_file};
-pub use fault::{FolderCall, FolderFault};
-
-/// The file that `replace` fills before it renames it.
-const FRESH: &str = "replace.new";
+pub use fault::{FolderCall, FolderError, FolderFault};
+pub use names::missing_current;
 
 /// The bytes for which a path has room beside its folder, so that a removal takes no memory.
 const NAME_ROOM: usize = 64;
@@ -28,6 +29,9 @@ const NAME_ROOM: usize = 64;
 ///
 /// A folder has one owner: the store locks the folder's file `lock` as long as it lives, and a second one is refused. The
 /// system gives the lock back where a process is killed. `lock` is no name of the store.
+///
+/// A folder that is no tree's is refused before anything is made in it, since opening a tree removes what begins with `v` in
+/// the folder itself, and without `current` all tables. docs/FORMATS.md has the rule.
 ///
 /// Names are those that the store was given: nobody else should change the folder while it is in use. What is
 /// promised by contract is the count of failures alone, since no contract can say what a disk does. What each
@@ -59,11 +63,22 @@ pub struct FolderStore<R: Files<File = File> + Alloc + Clone + Drop> {
     root: String,
     /// The path that a call spells, kept for the next one.
     path: String,
+    last_call: LastCall,
     failures: u64,
     last_fault: Option<FolderFault>,
     /// Held, and so locked, as long as the store lives.
     lock: File,
     ghost told: { IsSome last_fault ↔ (1 ≤ failures) },
+}
+
+/// What the last call was, as far as an explanation goes by it.
+#[derive(Clone, Copy)]
+enum LastCall {
+    /// It read the file of the path that was spelled last.
+    Read,
+    /// It listed the names, as an opening does that then refuses one of them.
+    List,
+    Other,
 }
 
 /// The subfolder that a name's file is in. None where it is in the folder itself.
@@ -82,11 +97,20 @@ impl<R: Files<File = File> + Alloc + Clone + Drop> FolderStore<R> {
     ///
     /// # Errors
     ///
+    /// Before anything is made, of the kind `InvalidInput`, what keeps the folder from being a tree's: a file of its own that
+    /// begins with `v` and is neither `version` nor `v` and a plain number; `current`, where it is absent beside a table, a
+    /// record or a version above 0; a `replace.new` without `current` and `v0`.
+    ///
     /// What the system answered, where the folder can't be made or locked, or where memory is refused. Another store that
     /// has the folder open, in this process or in another one, is such a fault, of the kind `WouldBlock`.
     pub fn new(rt: &R, alloc: Global, folder: &str) -> Result<FolderStore<R>, FolderFault>
         ensures counts { IfOk result (λ store. store.failures ≡ 0) }
     {
+        match find_foreign(rt, alloc, folder) {
+            Ok(None) => {}
+            Ok(Some(foreign)) => return Err(foreign),
+            Err(error) => return Err(FolderFault::new(alloc, folder, FolderCall::Make, error)),
+        }
         if let Err(error) = disk::make_folder(rt, alloc, folder) {
             return Err(FolderFault::new(alloc, folder, FolderCall::Make, error));
         }
@@ -108,6 +132,7 @@ impl<R: Files<File = File> + Alloc + Clone + Drop> FolderStore<R> {
             rt: rt.clone()?,
             root,
             path,
+            last_call: LastCall::Other,
             failures: 0,
             last_fault: None,
             lock,
@@ -121,10 +146,96 @@ impl<R: Files<File = File> + Alloc + Clone + Drop> FolderStore<R> {
         self.last_fault.as_ref()
     }
 
+    /// What a tree over this store refused, with the file that it fell on and why: of a fault what the last call that failed
+    /// was answered, of damage the file that was read last, or the name that keeps the folder from being opened. Behind any
+    /// other error stands the folder. It lists the folder's names where no file was read last, and changes nothing.
+    ///
+    /// # Examples
+    ///
+    /// ```text
+    /// let opened = TreeState::open_unlogged(alloc, Config::new(0, 0, 0), store);
+    /// // As in: tables/7: open: a checksum differs
+    /// let mut tree = opened.map_err(|(error, store)| store.explain(error))?;
+    /// tree.flush_active_memtable(0).map_err(|(error, _)| tree.store().explain(error))?;
+    /// ```
+    pub fn explain(&self, error: Error) -> FolderError {
+        let place = match &error {
+            Error::Store | Error::CommitUnknown | Error::AfterCommit => self.describe_fault(),
+            Error::Unrecoverable => self.describe_unusable(),
+            Error::InvalidVersion(_)
+            | Error::InvalidTag(_, _)
+            | Error::InvalidHeader(_)
+            | Error::ChecksumMismatch => self.describe_damage(),
+            _ => Ok(None),
+        };
+        let alloc = *self.root.allocator();
+        let place = match place {
+            Ok(Some(place)) => place,
+            Ok(None) => String::from_str(alloc, self.root.as_str()).unwrap_or(String::new(alloc)),
+            Err(_) => String::new(alloc),
+        };
+        FolderError { place, error }
+    }
+
+    /// The last fault in words.
+    fn describe_fault(&self) -> io::Result<Option<String>> {
+        match &self.last_fault {
+            Some(fault) => Ok(Some(format!(in *self.root.allocator(); "{fault}")?)),
+            None => Ok(None),
+        }
+    }
+
+    /// The name of the file whose path was spelled last.
+    fn last_name(&self) -> &str {
+        let below = self.path.as_str().strip_prefix(self.root.as_str());
+        below.unwrap_or("").trim_start_matches('/')
+    }
+
+    /// The file that was read last, in words.
+    fn describe_read(&self) -> io::Result<Option<String>> {
+        let name = self.last_name();
+        let is_absent = disk::is_absent(&self.rt, self.path.as_str());
+        let call = if is_absent {
+            "open: is missing"
+        } else {
+            "open"
+        };
+        Ok(Some(format!(in *self.root.allocator(); "{name}: {call}")?))
+    }
+
+    /// What is of another format, in words: the file that was read last, or `version`.
+    fn describe_damage(&self) -> io::Result<Option<String>> {
+        match self.last_call {
+            LastCall::Read => self.describe_read(),
+            _ => Ok(Some(format!(in *self.root.allocator(); "{OLDER}: open")?)),
+        }
+    }
+
+    /// What can't be used, in words: a name that is none of a tree's, the file that was read last, a record, or the fault since which an
+    /// outcome is unknown. Names in `tables` are judged behind the version's file, those in `log` behind all tables.
+    fn describe_unusable(&self) -> io::Result<Option<String>> {
+        let (alloc, root) = (*self.root.allocator(), self.root.as_str());
+        match self.last_call {
+            LastCall::Read if self.last_name().starts_with('v') => {
+                match find_odd(&self.rt, alloc, root, "tables/")? {
+                    Some(odd) => Ok(Some(odd)),
+                    None => self.describe_read(),
+                }
+            }
+            LastCall::Read => self.describe_read(),
+            LastCall::List => match find_odd(&self.rt, alloc, root, "")? {
+                Some(odd) => Ok(Some(odd)),
+                None => find_record(&self.rt, alloc, root),
+            },
+            LastCall::Other => self.describe_fault(),
+        }
+    }
+
     /// Spells the path of a name.
     fn spell(&mut self, name: &str) -> Result<(), AllocError>
         ensures { self.new.failures ≡ self.old.failures }
     {
+        self.last_call = LastCall::Other;
         self.path.clear();
         self.path.push_str(self.root.as_str())?;
         self.path.push('/')?;
@@ -206,12 +317,14 @@ impl<R: Files<File = File> + Alloc + Clone + Drop> Store for FolderStore<R> {
     ghost only_now = { λ no store image left. absurd no };
 
     fn list(&mut self, alloc: Global) -> Result<Vec<String>, StoreError> {
+        self.last_call = LastCall::List;
         let outcome = disk::list_folder(&self.rt, alloc, self.root.as_str());
         self.tell(FolderCall::List, "", outcome)
     }
 
     fn read(&mut self, alloc: Global, name: &str) -> Result<Option<Vec<u8>>, StoreError> {
         self.spell(name)?;
+        self.last_call = LastCall::Read;
         let outcome = disk::read_file(&self.rt, alloc, self.path.as_str());
         self.tell(FolderCall::Read, name, outcome)
     }
@@ -251,6 +364,7 @@ impl<R: Files<File = File> + Alloc + Clone + Drop> Store for FolderStore<R> {
     }
 
     fn settle(&mut self) -> Result<(), StoreError> {
+        self.last_call = LastCall::Other;
         let alloc = *self.root.allocator();
         let [tables, log] = SUBFOLDERS;
         let tables = path_below(alloc, self.root.as_str(), tables)?;

@@ -14,7 +14,8 @@ mod store;
 mod synced;
 
 pub use folder_store::{
-    FolderCall, FolderFault, FolderStore, SUBFOLDERS, list_files, path_below, read_file,
+    FolderCall, FolderError, FolderFault, FolderStore, SUBFOLDERS, list_files, missing_current,
+    path_below, read_file,
 };
 pub use mem_store::{Fault, MemStore, Pick};
 pub use store::{Store, StoreError, runs_of_calls};

@@ -15,7 +15,8 @@ use std::sync::{Arc, Mutex};
 /// # Examples
 ///
 /// ```text
-/// let core = TreeState::open(alloc, Config::new(0, 0, 0), MemStore::new(alloc)).map_err(|refused| refused.0)?;
+/// let opened = TreeState::open_unlogged(alloc, Config::new(0, 0, 0), MemStore::new(alloc));
+/// let core = opened.map_err(|refused| refused.0)?;
 /// let tree = Handle::new(alloc, core)?;
 /// let other = tree.clone()?;
 /// let number = tree.write(&rt, vec![in alloc; (key, Op::Set(value))]?)?;
@@ -34,7 +35,8 @@ pub type Tree<S = MemStore> = Handle<TreeState<S>>;
 /// # Examples
 ///
 /// ```text
-/// let core = Recorded::open(alloc, Config::new(0, 0, 0), MemStore::new(alloc)).map_err(|refused| refused.0)?;
+/// let opened = Recorded::open_unlogged(alloc, Config::new(0, 0, 0), MemStore::new(alloc));
+/// let core = opened.map_err(|refused| refused.0)?;
 /// let tree = Handle::new(alloc, core)?;
 /// let mut pass = Pass::new(alloc);
 /// tree.write(&rt, &mut pass, vec![in alloc; (key, Op::Set(value))]?)?;
@@ -55,7 +57,8 @@ pub type RecordedTree<S = MemStore> = Handle<Recorded<S>>;
 ///
 /// ```text
 /// let store = FolderStore::new(rt, alloc, "folder")?;
-/// let core = Logged::open(alloc, Config::new(0, 0, 0), store).map_err(|refused| refused.0)?;
+/// let opened = Logged::open(alloc, Config::new(0, 0, 0), store);
+/// let core = opened.map_err(|(error, store)| store.explain(error))?;
 /// let tree: LoggedTree<_> = Handle::new(alloc, core)?;
 /// let number = tree.write(&rt, vec![in alloc; (key, Op::Set(value))]?)?;
 /// let found = tree.get(&rt, b"a", number + 1)?;

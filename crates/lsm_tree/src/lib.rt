@@ -78,15 +78,15 @@ pub use lsm_versions::{
 
 // Files.
 pub use lsm_manifest::{
-    FileName, FormatVersion, Manifest, Opened, RecoveredTable, Recovery, damaged_file,
-    get_current_version, open_files, persist_version, recover, table_name, version_name,
+    FileName, FormatVersion, Manifest, Opened, RecoveredTable, Recovery, get_current_version,
+    open_files, persist_version, recover, table_name, version_name,
 };
 pub use lsm_store::{
-    Fault, FolderCall, FolderFault, FolderStore, MemStore, Pick, Store, StoreError,
+    Fault, FolderCall, FolderError, FolderFault, FolderStore, MemStore, Pick, Store, StoreError,
 };
 
 // Calls as data, the call history and the log.
-pub use lsm_logged::{Logged, has_log};
+pub use lsm_logged::Logged;
 pub use lsm_model::{Answer, JournalEntry, KeyBound, KeyRanges, KvPairs, Op, Ops, Question};
 pub use lsm_recorded::{Closed, Pass, Recorded, SharedEntry};
 pub use lsm_runs::{

@@ -1,27 +1,19 @@
 // A recorded tree is opened over a store, and gives it back.
-ghost use Rattle.std.specs.Prelude.{◌≡◌, ℕ, [], None, codes, length, IsSome, IfOk};
+ghost use Rattle.std.specs.Prelude.{◌≡◌, ◌⊎◌, [], Ok, Err, length, IfOk, IfErr};
 ghost use Rattle.lsm_below.specs.Entries.{above};
 ghost use Rattle.lsm_below.specs.Sums.{capped};
-ghost use Rattle.lsm_store.specs.World.{LeavesOnly};
 ghost use Rattle.lsm_model.specs.Views.{held};
-ghost use Rattle.lsm_versions.specs.Levels.{Levels as SeenLevels, all_of, placed_of};
-ghost use Rattle.lsm_manifest.specs.Kinds.{is_orphan};
-ghost use Rattle.lsm_manifest.specs.Spelling.{ids_of};
-ghost use Rattle.lsm_manifest.specs.Recovery.{Levels, IsNamed, CountsStore};
-ghost use Rattle.lsm_manifest.specs.Clearing.{IsCleared, Removes};
-ghost use Rattle.lsm_manifest.specs.Standing.{HasSmallNumbers, StandsFor};
-ghost use Rattle.lsm_manifest.specs.Pinned.{IsPinned};
-ghost use Rattle.lsm_manifest.specs.Names.{current_name};
-ghost use Rattle.lsm_manifest.specs.Told.{Told, TellsOpen};
-ghost use Rattle.lsm_manifest.specs.OpeningWith.{OpensWith, IsUnrecoverable};
-ghost use Rattle.lsm_manifest.specs.Opening.{OpensNew, OpensAs, IsOlder, IsAbove, KeepsFiles, ReadsFrom};
-ghost use Rattle.lsm_manifest.specs.Persist.{IsOldOrNew};
-ghost use Rattle.lsm_manifest.specs.Versions.{file_of, first_version};
-ghost use Rattle.lsm_manifest.specs.Finding.{Finds};
-ghost use Rattle.lsm_manifest.specs.Ready.{IsReady, OpeningLeaves};
-ghost use Rattle.lsm_commit.specs.Stored.{IsStored};
-ghost use Rattle.lsm_state.specs.Core.{opened_core, versions_left, written_of};
 ghost use Rattle.lsm_versions.specs.Configs.{raised};
+ghost use Rattle.lsm_versions.specs.Levels.{all_of, placed_of};
+ghost use Rattle.lsm_manifest.specs.Looking.{Looks};
+ghost use Rattle.lsm_manifest.specs.Opening.{IsAbove, LeavesStanding};
+ghost use Rattle.lsm_manifest.specs.Recovery.{CountsStore};
+ghost use Rattle.lsm_manifest.specs.Standing.{HasSmallNumbers};
+ghost use Rattle.lsm_manifest.specs.Told.{Told, TellsOpen};
+ghost use Rattle.lsm_commit.specs.Stored.{CountsFaults};
+ghost use Rattle.lsm_state.specs.Core.{opened_core};
+ghost use Rattle.lsm_state.specs.Opened.{FoundStanding};
+ghost use Rattle.lsm_state.specs.Unlogged.{HasOnlyPassed, RefusesUnlogged};
 
 use crate::opened::{OpenedMarks, opened_of};
 use crate::recorded::Recorded;
@@ -29,14 +21,16 @@ use lsm_below::{Error, TableId};
 use lsm_manifest::openings_leave_what_was_read;
 use lsm_model::{maps_are_read, reads_are_sound};
 use lsm_parts::{Config, Version};
-use lsm_state::TreeState;
+use lsm_state::{Found, TreeState};
 use lsm_store::Store;
 use std::alloc::Global;
 
 impl<S: Store> Recorded<S> {
     ghost use Rattle.lsm_recorded.specs.MarkedTables.{TablesAreInOrder};
-    ghost use Rattle.lsm_recorded.specs.Opened.{files_told, store_left};
+    ghost use Rattle.lsm_recorded.specs.Opened.{files_told, store_left, OpensRecorded};
 
+    /// Loses acknowledged batches at the next flush where a record of a log counts, which `open_unlogged` refuses.
+    ///
     /// The tree that the files of a store hold, as `TreeState::open`, with an empty journal. Its counters start where the
     /// configuration says, or above the greatest sequence number that was found. The order of later writes counts
     /// what the tables hold.
@@ -50,32 +44,7 @@ impl<S: Store> Recorded<S> {
     /// some key the sequence numbers don't fall from the newest table to the oldest, or a weak tombstone stands over two
     /// values.
     pub fn open(alloc: Global, config: Config, store: S) -> Result<Recorded<S>, (Error, S)>
-        // A file `version` tells an older format.
-        ensures version { S.tells → IsSome ((S.world store).gives (codes "version")) → Told TellsOpen IsOlder (files_told result) }
-        // What `current` leads to, with tables in order, or the first thing that is wrong with it.
-        ensures opens { S.tells → (S.world store).gives (codes "version") ≡ None → IsSome ((S.world store).gives current_name) → Told TellsOpen (OpensWith TablesAreInOrder (S.world store).gives) (files_told result) }
-        // From which number its log is read.
-        ensures from { S.tells → IsSome ((S.world store).gives current_name) → IfOk result (λ t. ReadsFrom (S.world store).gives t.tree.core.history.latest.version) }
-        // What stands in order is taken: it is refused only for memory, or where a store call failed.
-        ensures takes { S.tells → (id : ℕ) (ls : Levels) (ts : SeenLevels) → StandsFor (S.world store).gives id ls ts → HasSmallNumbers ts → TablesAreInOrder ts → Told TellsOpen (OpensAs id ls ts) (files_told result) }
-        // What stands, but not in order, is refused.
-        ensures unordered { S.tells → (id : ℕ) (ls : Levels) (ts : SeenLevels) → StandsFor (S.world store).gives id ls ts → HasSmallNumbers ts → (TablesAreInOrder ts → ⊥) → Told TellsOpen IsUnrecoverable (files_told result) }
-        // Without `current`, a new tree.
-        ensures new { S.tells → (S.world store).gives (codes "version") ≡ None → (S.world store).gives current_name ≡ None → Told TellsOpen (OpensNew (S.world store) (S.world (store_left result))) (files_told result) }
-        // Opened, the orphans are gone, and nothing else has changed.
-        ensures removes { S.tells → (id : ℕ) (ls : Levels) → IsNamed (S.world store).gives id ls → IfOk result (λ t. Removes (is_orphan id (ids_of ls)) (S.world store) (S.world t.tree.store)) }
-        // A crash in it takes orphans alone.
-        ensures any_moment { S.tells → (id : ℕ) (ls : Levels) → IsNamed (S.world store).gives id ls → LeavesOnly (S.world store) (S.world (store_left result)) (IsCleared (is_orphan id (ids_of ls)) (S.world store)) }
-        // Where the names that stand have one possible content each, every image meanwhile stands for the same tables.
-        ensures stands { S.tells → (id : ℕ) (ls : Levels) (ts : SeenLevels) → StandsFor (S.world store).gives id ls ts → IsPinned (S.world store) id ls → LeavesOnly (S.world store) (S.world (store_left result)) (λ image. StandsFor image id ls ts) }
-        // Or it leaves what was there, or the new tree.
-        ensures new_moment { S.tells → (S.world store).gives current_name ≡ None → LeavesOnly (S.world store) (S.world (store_left result)) (IsOldOrNew 0 (file_of first_version) (S.world store)) }
-        // Over a store that is ready to be opened a crash meanwhile leaves what it could before, or the tables that were
-        // read; the store is then ready again, whatever is answered, and after an Ok the tree's files are stored.
-        ensures meanwhile { S.tells → (ts : SeenLevels) → IsReady (S.world store) → Finds (S.world store).gives ts → OpeningLeaves (S.world store) (S.world (store_left result)) ts }
-        ensures stored { S.tells → IsReady (S.world store) → IfOk result (λ t. IsStored (S.world t.tree.store) (versions_left t.tree.core) (written_of t.tree.core)) }
-        // Refused for a fault of its files, their order included, the store is as it was.
-        ensures keeps { S.tells → Told TellsOpen (KeepsFiles (S.world store) (S.world (store_left result))) (files_told result) }
+        ensures opens { S.tells → OpensRecorded S.world store result }
         // The tree has the version, and else nothing yet; both counters stand above what its tables hold.
         ensures core { IfOk result (λ t. t.tree.core ≡ opened_core (raised (above (held t.opened)) config) t.tree.core.history.latest.version t.tree.core.next_table) }
         ensures journal { IfOk result (λ t. t.journal ≡ []) }
@@ -87,10 +56,50 @@ impl<S: Store> Recorded<S> {
         ensures small { IfOk result (λ t. HasSmallNumbers t.tree.core.history.latest.version.levels) }
         ensures counts { Told TellsOpen (CountsStore (S.world store) (S.world (store_left result))) (files_told result) }
     {
-        reads_are_sound();
-        maps_are_read();
         openings_leave_what_was_read(&store);
         let found = TreeState::look(alloc, store)?;
+        Recorded::open_found(alloc, config, found)
+    }
+
+    /// The tree that the files of a store hold, as `open`, but a store in which a record of a log counts is refused: another tree
+    /// than `Logged` over it would not read what the record holds, and its flush would pass it.
+    ///
+    /// # Errors
+    ///
+    /// As `open`; and `Unrecoverable`, nothing changed, where a record counts or a name in the folder `log` is none of a record.
+    pub fn open_unlogged(alloc: Global, config: Config, store: S) -> Result<Recorded<S>, (Error, S)>
+        ensures opens { S.tells → IfOk result (λ t. OpensRecorded S.world store (Ok t)) }
+        ensures passed { S.tells → IfOk result (λ t. HasOnlyPassed (S.world store).gives) }
+        ensures refused { S.tells → IfErr result (λ e. OpensRecorded S.world store (Err e) ⊎ RefusesUnlogged (S.world store) (S.world e.1) e.0) }
+        // The tree has the version, and else nothing yet; both counters stand above what its tables hold.
+        ensures core { IfOk result (λ t. t.tree.core ≡ opened_core (raised (above (held t.opened)) config) t.tree.core.history.latest.version t.tree.core.next_table) }
+        ensures journal { IfOk result (λ t. t.journal ≡ []) }
+        ensures opened { IfOk result (λ t. t.opened ≡ placed_of t.tree.core.history.latest.version.levels) }
+        ensures ordered { IfOk result (λ t. TablesAreInOrder t.tree.core.history.latest.version.levels) }
+        ensures next { IfOk result (λ t. IsAbove t.tree.core.next_table t.tree.core.history.latest.version.levels) }
+        ensures small { IfOk result (λ t. HasSmallNumbers t.tree.core.history.latest.version.levels) }
+        ensures counts { CountsFaults (S.world store) (S.world (store_left result)) (files_told result) }
+    {
+        let found = TreeState::look_unlogged(alloc, store)?;
+        Recorded::open_found(alloc, config, found)
+    }
+
+    /// The tree of what was found.
+    fn open_found(alloc: Global, config: Config, found: Found<S>) -> Result<Recorded<S>, (Error, S)>
+        requires next { IsAbove found.files.opened.next_table_id found.files.opened.version.levels }
+        requires small { HasSmallNumbers found.files.opened.version.levels }
+        ensures opens { S.tells → (first : S) → Looks (S.world first) (S.world found.store) found.files → FoundStanding (S.world first) found.files → LeavesStanding (S.world first) (S.world found.store) → OpensRecorded S.world first result }
+        ensures core { IfOk result (λ t. t.tree.core ≡ opened_core (raised (above (held t.opened)) config) t.tree.core.history.latest.version t.tree.core.next_table) }
+        ensures journal { IfOk result (λ t. t.journal ≡ []) }
+        ensures opened { IfOk result (λ t. t.opened ≡ placed_of t.tree.core.history.latest.version.levels) }
+        ensures ordered { IfOk result (λ t. TablesAreInOrder t.tree.core.history.latest.version.levels) }
+        ensures next { IfOk result (λ t. IsAbove t.tree.core.next_table t.tree.core.history.latest.version.levels) }
+        ensures small { IfOk result (λ t. HasSmallNumbers t.tree.core.history.latest.version.levels) }
+        ensures counts { Told TellsOpen (CountsStore (S.world found.store) (S.world (store_left result))) (files_told result) }
+    {
+        reads_are_sound();
+        maps_are_read();
+        openings_leave_what_was_read(found.store());
         let (OpenedMarks { marks, least }, opened) = match opened_of(alloc, found.version()) {
             Ok(Some(marks)) => marks,
             Ok(None) => return Err((Error::Unrecoverable, found.into_store())),

@@ -132,8 +132,9 @@ impl<S: Store> TreeState<S> {
     }
 
     /// Drops the tables whose whole key range lies within bounds, with their entries: with `DropRange`, at watermark 0.
-    /// Memtables aren't touched, nor tables that reach out of the bounds, so keys within may stay. Nothing is done where the
-    /// bounds are reversed, or an open merge works on one of the tables.
+    /// Memtables aren't touched, nor tables that reach out of the bounds, so keys within may stay; and where a key's newest
+    /// entry goes, an older value in a table that stays is read again. Nothing is done where the bounds are reversed, or an open
+    /// merge works on one of the tables.
     ///
     /// # Errors
     ///

@@ -112,6 +112,8 @@ impl<S: Store> TreeState<S> {
     /// `FlushJob::run`, `flush_to_tables` and `register_tables` do in turn. Nothing comes in between, so the job is never
     /// stale. Answers None where nothing is sealed, else the bytes that the sealed memtables count, up to 2^64 - 1, beside
     /// what became of the flush. The cost is linear in the entries of the sealed memtables and in the tables of the tree.
+    /// While the watermark stays low, for a snapshot that is kept long, each flush leaves a super version, which lists all
+    /// tables: memory grows by the square of the writes.
     ///
     /// `cleaned` is false where the store failed after the commit: what was to go is tried again by the next one.
     ///

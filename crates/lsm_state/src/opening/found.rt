@@ -45,6 +45,13 @@ impl<S: Store> Found<S> {
         &self.files.opened.version
     }
 
+    /// The store, to look at.
+    pub fn store(&self) -> &S
+        ensures { result.now ≡ self.now.store }
+    {
+        &self.store
+    }
+
     /// The configuration with both counters above the sequence numbers of all that was found: what is written to the tree
     /// that is opened with it is newer than what was there. `TreeState::open_raised` opens so.
     pub fn raised(&self, config: Config) -> Config

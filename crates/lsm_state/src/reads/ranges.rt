@@ -147,7 +147,9 @@ impl<S: Store> TreeState<S> {
     }
 
     /// What a snapshot shows within bounds, as `create_internal_range`: an iterator from both ends that owns its pairs. To
-    /// make it copies the newest entry of each key of memtables in the bounds; `pairs` lends them instead, and copies none.
+    /// make it copies the newest entry of each key of memtables in the bounds: with an open end all of a memtable behind its
+    /// beginning, however few pairs are taken (`range100_open_mem` of docs/PERFORMANCE.md). `pairs` lends them instead, and
+    /// copies none, so that one page costs a page.
     ///
     /// # Examples
     ///

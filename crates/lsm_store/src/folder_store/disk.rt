@@ -30,9 +30,6 @@ pub fn path_below(alloc: Global, root: &str, name: &str) -> Result<String, Alloc
 /// Makes a folder and its subfolders where they are absent, and each folder on the way there. Each one that is made is
 /// synced into the one that it stands in, so that a crash keeps it.
 pub(crate) fn make_folder<R: Files>(rt: &R, alloc: Global, path: &str) -> io::Result<()> {
-    if path.is_empty() {
-        return Err(io::Error::new(ErrorKind::InvalidInput, "a folder without a name"));
-    }
     let mut at = String::new(alloc);
     let mut parent = String::from_str(alloc, if path.starts_with('/') { "/" } else { "." })?;
     for part in path.split('/') {
@@ -164,7 +161,7 @@ fn fill<R: Files, W: Write>(rt: &R, path: &str, file: &mut W, bytes: &[u8]) -> i
 }
 
 /// Whether nothing is there under a path: what couldn't be made and isn't there was not there before.
-fn is_absent<R: Files>(rt: &R, path: &str) -> bool {
+pub(crate) fn is_absent<R: Files>(rt: &R, path: &str) -> bool {
     match fs::symlink_metadata(rt, path) {
         Ok(_) => false,
         Err(error) => error.kind() == ErrorKind::NotFound,

@@ -15,6 +15,9 @@ pub enum FolderCall {
     /// To be made, where it was absent.
     #[error("make")]
     Make,
+    /// To be taken as a tree's.
+    #[error("open")]
+    Open,
     /// To be locked, so that nobody else has it open.
     #[error("lock")]
     Lock,
@@ -45,6 +48,18 @@ pub struct FolderFault {
     pub name: String,
     pub call: FolderCall,
     pub error: io::Error,
+}
+
+/// What a tree over a folder refused, and the place where: a file with what was asked of it and why that failed, or the folder.
+///
+/// It is printed as `tables/7: open: a checksum differs`, or as
+/// `tables/7: write: No space left on device (os error 28): a store call failed`.
+#[derive(Debug, Drop, Error)]
+#[error("{place}: {error}")]
+pub struct FolderError {
+    /// Empty where no memory was left to keep it.
+    pub place: String,
+    pub error: lsm_below::Error,
 }
 
 impl FolderFault {

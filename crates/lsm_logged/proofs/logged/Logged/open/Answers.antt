@@ -23,12 +23,13 @@ use Rattle.lsm_log_model.specs.Records.{LogStands}
 use Rattle.lsm_logged.specs.Keeping.{AreRecordNumbers}
 use Rattle.lsm_logged.specs.Meanwhile.{LeavesAsBefore}
 use Rattle.lsm_logged.specs.Opening.{Files, Memory, Faulty, BadLog, image_read, TakesLog, IsNextTable, CanBeSettled, IsReopenedLog}
-use Rattle.lsm_logged.proofs.Blaming.{none_counted, one_failed, counted_behind, none_behind}
+use Rattle.lsm_state.proofs.Blaming.{none_counted, one_failed, counted_behind, none_behind}
 use Rattle.lsm_logged.proofs.Gone.{orphan_apart}
 use Rattle.lsm_logged.proofs.LogNames.{record_is_foreign}
 use Rattle.lsm_logged.proofs.Meanwhile.{nothing_moment, looks_read, files_left, records_left}
 use Rattle.lsm_logged.proofs.Replaying.{log_read, none_lacks, small_numbers}
-use Rattle.lsm_logged.proofs.Reopening.{looks_on, fresh_in, found_in, next_in, is_read_in, numbered_more, whole, version, table, high, replays, takes, reopens}
+use Rattle.lsm_state.proofs.Reached.{looks_on}
+use Rattle.lsm_logged.proofs.Reopening.{fresh_in, found_in, next_in, is_read_in, numbered_more, whole, version, table, high, replays, takes, reopens}
 use Rattle.lsm_logged.proofs.logged.Logged.open.Given.{Over}
 use Rattle.lsm_logged.proofs.logged.Logged.open.Goals.{In-Ok, After-take_log}
 use Rattle.lsm_logged.proofs.logged.Logged.open.Goals as goal
