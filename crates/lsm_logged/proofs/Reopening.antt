@@ -9,8 +9,8 @@ use Rattle.lsm_below.specs.Each.{each_append, each_left}
 use Rattle.lsm_below.specs.Entries.{above}
 use Rattle.lsm_below.specs.Numbers.{PlainNumbersAreRead}
 use Rattle.lsm_below.specs.Sums.{capped}
-use Rattle.lsm_store.specs.World.{Image, World, Same, IsOnDisk, LeavesOnly}
-use Rattle.lsm_store.specs.Moments.{same_then, joined}
+use Rattle.lsm_store.specs.World.{Image, World, IsOnDisk, LeavesOnly}
+use Rattle.lsm_store.specs.Moments.{joined}
 use Rattle.lsm_model.specs.Steps.{Run, Wrote}
 use Rattle.lsm_model.specs.Views.{held}
 use Rattle.lsm_model.specs.declared.journal.JournalEntry.TheVariants.{Write}
@@ -21,7 +21,7 @@ use Rattle.lsm_manifest.specs.declared.found.Found.{Found}
 use Rattle.lsm_manifest.specs.declared.opening.Opened.{Opened}
 use Rattle.lsm_manifest.specs.Finding.{Finds, Named}
 use Rattle.lsm_manifest.specs.Names.{current_name}
-use Rattle.lsm_manifest.specs.Looking.{FindsIn, Looks, IsFoundIn}
+use Rattle.lsm_manifest.specs.Looking.{FindsIn, IsFoundIn}
 use Rattle.lsm_manifest.specs.Versions.{first_version}
 use Rattle.lsm_manifest.specs.Opening.{IsFound, ReadsFrom}
 use Rattle.lsm_commit.specs.Foreign.{IsForeign, KeepsForeign, Passes}

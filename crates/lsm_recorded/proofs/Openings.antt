@@ -1,5 +1,5 @@
 -- What comes of opening a recorded tree, by what comes of opening the tree below it.
-use Rattle.std.proofs.Common.{◌≡◌, ℕ, List, Option, None, Err, IsSome, refl, sym, subst, ap}
+use Rattle.std.proofs.Common.{◌≡◌, ℕ, List, Option, None, Err, IsSome, refl, sym, subst}
 use Rattle.std.specs.Prelude.{codes}
 use Rattle.lsm_below.specs.declared.error.Error.{Error}
 use Rattle.lsm_below.specs.declared.error.Error.TheVariants as error

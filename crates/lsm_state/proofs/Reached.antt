@@ -1,13 +1,12 @@
 -- Which of the records that are there count.
-use Rattle.std.proofs.Common.{◌≡◌, inr, ℕ, ◌<◌, ◌≤◌, ◌-◌, ◌^◌, Bool, true, false, nat_le, List, [], Option, None, refl, sym, ap, subst, ◌∙◌, arith}
-use Rattle.std.specs.Prelude.{Contains, IsSome}
+use Rattle.std.proofs.Common.{◌≡◌, ℕ, ◌<◌, ◌≤◌, ◌-◌, ◌^◌, Bool, true, false, nat_le, List, None, refl, sym, ap, subst, ◌∙◌, arith}
+use Rattle.std.specs.Prelude.{Contains}
 use Rattle.std.specs.List.{list_any}
 use Rattle.std.proofs.lemmas.Bool.{both_ways}
 use Rattle.std.proofs.lemmas.Bool.Decides.{nat_tests}
 use Rattle.std.proofs.lemmas.List.Folds.{list_any-from_Any, Any-from_list_any}
 use Rattle.lsm_store.specs.World.{Image, World, Same}
 use Rattle.lsm_store.specs.Moments.{same_then}
-use Rattle.lsm_versions.specs.Levels.{SeenVersion}
 use Rattle.lsm_manifest.specs.declared.found.Found.{Found}
 use Rattle.lsm_manifest.specs.declared.opening.Opened.{Opened}
 use Rattle.lsm_manifest.specs.Names.{current_name}

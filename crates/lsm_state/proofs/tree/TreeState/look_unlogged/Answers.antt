@@ -13,10 +13,10 @@ use Rattle.lsm_manifest.proofs.OpensLemmas.{leaves_same}
 use Rattle.lsm_log.specs.Logs.{IsLogAt, IsBadLog}
 use Rattle.lsm_log.proofs.Loaded.{gives_same}
 use Rattle.lsm_state.specs.Unlogged.{IsReadFrom, Files, Memory, Faulty, BadName, Counted}
-use Rattle.lsm_state.proofs.Blaming.{bad_name, none_counted, one_failed}
+use Rattle.lsm_state.proofs.Blaming.{bad_name, one_failed}
 use Rattle.lsm_state.proofs.Reached.{looked, looks_on, reached, unreached}
 use Rattle.lsm_state.proofs.tree.TreeState.look_unlogged.Given.{Over}
-use Rattle.lsm_state.proofs.tree.TreeState.look_unlogged.Goals.{In-Ok, After-reaches}
+use Rattle.lsm_state.proofs.tree.TreeState.look_unlogged.Goals.{After-reaches}
 use Rattle.lsm_state.proofs.tree.TreeState.look_unlogged.Goals as goal
 
 pub returns-in_err-found-clause-refused : goal.returns-in_err-found-clause-refused
