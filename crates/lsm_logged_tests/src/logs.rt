@@ -1,6 +1,8 @@
 // Batches that come back, outcomes that are unknown, and records that are removed. Each tree has one function that makes it
 // and lets it go, and others that borrow it.
-use crate::trees::{count_records, crashed, file, flush, fresh, op, opened, shows, write};
+use crate::trees::{
+    count_records, crashed, file, flush, fresh, has_names, left_with, op, opened, shows, write,
+};
 use lsm_logged::Logged;
 use lsm_state::{Config, Error, Fault, MemStore, OwnedBounds, Pick, Store, UserKey};
 use std::alloc::Global;
@@ -8,7 +10,7 @@ use std::ops::Bound;
 use std::test::Fail;
 
 /// The record of a = x at 0.
-const A_IS_X: [u8; 25] = [
+pub const A_IS_X: [u8; 25] = [
     0x4c, 0x53, 0x4d, 0x4c, 0, 0, 0, 0, 0, 0, 0, 0, 1, 0, 0, 0, 1, 0, 0, 1, 0, 0, 0, 0x61, 0x78,
 ];
 
@@ -59,7 +61,7 @@ fn show(
     ))
 }
 
-/// The same after a crash.
+/// The same at 2 after a crash.
 fn show_crashed(
     alloc: Global,
     tree: &Logged,
@@ -68,7 +70,7 @@ fn show_crashed(
     b: Option<&str>,
 ) -> Result<(bool, bool), Error> {
     let left = crashed(alloc, tree, picks)?;
-    let told = show(&left, 9, a, b);
+    let told = show(&left, 2, a, b);
     drop(left);
     told
 }
@@ -104,30 +106,28 @@ pub fn count(alloc: Global, tree: &Logged) -> Result<(usize, usize, usize), Erro
     Ok((tree.table_count(), tree.approximate_len(), records))
 }
 
-/// The same after a crash.
-pub fn count_crashed(
-    alloc: Global,
-    tree: &Logged,
-    picks: &[(&str, Pick<'_>)],
-) -> Result<(usize, usize, usize), Error> {
-    let left = crashed(alloc, tree, picks)?;
-    let told = count(alloc, &left);
-    drop(left);
-    told
-}
-
 type Counted = ((bool, bool), (usize, usize, usize));
 
-/// Whether the keys are shown so after a crash that brings the first record back, and what is counted then.
+fn show_and_count(
+    alloc: Global,
+    tree: &Logged,
+    a: Option<&str>,
+    b: Option<&str>,
+) -> Result<Counted, Error> {
+    Ok((show(tree, 3, a, b)?, count(alloc, tree)?))
+}
+
+/// Whether the keys are shown so at 3 after a crash to which the record of a = x comes back, and what is counted then.
 fn count_back(
     alloc: Global,
     tree: &Logged,
     a: Option<&str>,
     b: Option<&str>,
 ) -> Result<Counted, Error> {
-    let picks = [("log/0", Pick::Before)];
-    let shown = show_crashed(alloc, tree, &picks, a, b)?;
-    Ok((shown, count_crashed(alloc, tree, &picks)?))
+    let left = opened(alloc, left_with(alloc, tree, &[("log/0", &A_IS_X)])?)?;
+    let told = show_and_count(alloc, &left, a, b);
+    drop(left);
+    told
 }
 
 fn pass_one(alloc: Global, tree: &mut Logged) -> Result<Counted, Error> {
@@ -142,7 +142,7 @@ fn passed(alloc: Global) -> Result<Counted, Error> {
     told
 }
 
-/// What comes back of a record that a flush has passed is ignored, and removed again.
+/// A record that a flush has passed is ignored where its file comes back, and removed again.
 #[test]
 fn flushed_records_stay_passed(rt: HostRuntime) -> Result<(), Fail> {
     let (shown, counted) = passed(rt.alloc())?;
@@ -229,12 +229,19 @@ fn clear_between(alloc: Global, tree: &mut Logged) -> Result<u64, Error> {
     write(alloc, tree, "b", Some("y"))
 }
 
-fn clear_one(alloc: Global, tree: &mut Logged) -> Result<Counted, Error> {
-    clear_between(alloc, tree)?;
-    count_back(alloc, tree, None, Some("y"))
+/// From where on the log is read, and whether only the record of b is left.
+fn look_at_log(alloc: Global, tree: &Logged) -> Result<(u64, bool), Error> {
+    let from = tree.tree().current_version().log_from();
+    Ok((from, has_names(alloc, tree, "log/", &["log/2"])?))
 }
 
-fn cleared(alloc: Global) -> Result<Counted, Error> {
+fn clear_one(alloc: Global, tree: &mut Logged) -> Result<(Counted, (u64, bool)), Error> {
+    clear_between(alloc, tree)?;
+    let counted = count_back(alloc, tree, None, Some("y"))?;
+    Ok((counted, look_at_log(alloc, tree)?))
+}
+
+fn cleared(alloc: Global) -> Result<(Counted, (u64, bool)), Error> {
     let mut tree = fresh(alloc)?;
     let told = clear_one(alloc, &mut tree);
     drop(tree);
@@ -244,9 +251,55 @@ fn cleared(alloc: Global) -> Result<Counted, Error> {
 /// What was written before a clear stays gone, though its record comes back.
 #[test]
 fn cleared_batches_stay_gone(rt: HostRuntime) -> Result<(), Fail> {
-    let (shown, counted) = cleared(rt.alloc())?;
+    let ((shown, counted), log) = cleared(rt.alloc())?;
     assert_eq!(rt; shown, (true, true));
     assert_eq!(rt; counted, (0, 1, 1));
+    assert_eq!(rt; log, (1, true));
+    Ok(())
+}
+
+/// More calls than an opening, a write and a clear make.
+const CALLS: u64 = 32;
+
+/// Whether a is x after a crash, where it was acknowledged and the clear stopped before it replaced `current`.
+fn stop_clear(alloc: Global, tree: &mut Logged) -> Result<Option<bool>, Error> {
+    if write(alloc, tree, "a", Some("x")).is_err() {
+        return Ok(None);
+    }
+    match tree.clear() {
+        Err(Error::Store | Error::CommitUnknown) => {
+            let (a, _) = show_crashed(alloc, tree, &[], Some("x"), None)?;
+            Ok(Some(a))
+        }
+        _ => Ok(None),
+    }
+}
+
+/// The same where each call of the store from this one on is refused and does nothing.
+fn stopped(alloc: Global, call: u64) -> Result<Option<bool>, Error> {
+    let mut store = MemStore::new(alloc);
+    store.fail(call, Fault::FromHere);
+    match Logged::open(alloc, Config::new(0, 0, 0), store) {
+        Ok(mut tree) => {
+            let told = stop_clear(alloc, &mut tree);
+            drop(tree);
+            told
+        }
+        Err(_) => Ok(None),
+    }
+}
+
+/// A crash before a clear has replaced `current` leaves what was written before.
+#[test]
+fn a_stopped_clear_clears_nothing(rt: HostRuntime) -> Result<(), Fail> {
+    let mut stops = 0u32;
+    for call in 1..CALLS {
+        if let Some(is_there) = stopped(rt.alloc(), call)? {
+            assert!(rt; is_there, "call {call}");
+            stops = stops.saturating_add(1);
+        }
+    }
+    assert!(rt; stops > 0);
     Ok(())
 }
 
@@ -258,38 +311,17 @@ fn drop_a(tree: &mut Logged) -> Result<(), Error> {
     Ok(())
 }
 
-/// a = x at 0, flushed at 1; b = y at 2, flushed at 3; the table of a dropped at 4.
-fn drop_one(alloc: Global, tree: &mut Logged) -> Result<(), Error> {
-    flush_between(alloc, tree)?;
+/// a = x at 0, flushed at 1; its table is dropped at 2.
+fn drop_first(alloc: Global, tree: &mut Logged) -> Result<Counted, Error> {
+    write(alloc, tree, "a", Some("x"))?;
     flush(tree)?;
-    drop_a(tree)
+    drop_a(tree)?;
+    count_back(alloc, tree, None, None)
 }
 
-/// b is removed at 3, that is flushed, and all is merged.
-fn merge(alloc: Global, tree: &mut Logged) -> Result<u64, Error> {
-    let number = write(alloc, tree, "b", None)?;
-    flush(tree)?;
-    tree.major_compact(u64::MAX, 5)?;
-    Ok(number)
-}
-
-/// The number of the removal, and what is shown after a crash more.
-fn merge_and_crash(alloc: Global, tree: &mut Logged) -> Result<(u64, (bool, bool)), Error> {
-    let number = merge(alloc, tree)?;
-    Ok((number, show_crashed(alloc, tree, &[], None, None)?))
-}
-
-fn drop_and_crash(alloc: Global, tree: &mut Logged) -> Result<(u64, (bool, bool)), Error> {
-    drop_one(alloc, tree)?;
-    let mut left = crashed(alloc, tree, &[("log/0", Pick::Before)])?;
-    let told = merge_and_crash(alloc, &mut left);
-    drop(left);
-    told
-}
-
-fn dropped(alloc: Global) -> Result<(u64, (bool, bool)), Error> {
+fn first_dropped(alloc: Global) -> Result<Counted, Error> {
     let mut tree = fresh(alloc)?;
-    let told = drop_and_crash(alloc, &mut tree);
+    let told = drop_first(alloc, &mut tree);
     drop(tree);
     told
 }
@@ -297,8 +329,69 @@ fn dropped(alloc: Global) -> Result<(u64, (bool, bool)), Error> {
 /// What was dropped stays so, though its record comes back.
 #[test]
 fn dropped_entries_stay_gone(rt: HostRuntime) -> Result<(), Fail> {
-    let (number, shown) = dropped(rt.alloc())?;
-    assert_eq!(rt; number, 3);
+    let (shown, counted) = first_dropped(rt.alloc())?;
+    assert_eq!(rt; shown, (true, true));
+    assert_eq!(rt; counted, (0, 0, 0));
+    Ok(())
+}
+
+/// a = x at 0, flushed at 1; c = z at 2, flushed at 3; the table of a dropped at 4.
+fn drop_one(alloc: Global, tree: &mut Logged) -> Result<(), Error> {
+    write(alloc, tree, "a", Some("x"))?;
+    flush(tree)?;
+    write(alloc, tree, "c", Some("z"))?;
+    flush(tree)?;
+    drop_a(tree)
+}
+
+/// c is removed, that is flushed, and all is merged; the number of the removal, and the next one then.
+fn merge(alloc: Global, tree: &mut Logged) -> Result<(u64, u64), Error> {
+    let removal = write(alloc, tree, "c", None)?;
+    flush(tree)?;
+    tree.major_compact(u64::MAX, 5)?;
+    Ok((removal, tree.tree().seqno().get()))
+}
+
+fn lacks_both(tree: &Logged) -> Result<(bool, bool), Error> {
+    Ok((shows(tree, 9, "a", None)?, shows(tree, 9, "c", None)?))
+}
+
+/// The numbers of a merge, and whether neither key is shown after a crash to which both records come back once more.
+fn merge_and_crash(alloc: Global, tree: &mut Logged) -> Result<((u64, u64), (bool, bool)), Error> {
+    let numbers = merge(alloc, tree)?;
+    let left = opened(alloc, left_with(alloc, tree, &RECORDS)?)?;
+    let told = lacks_both(&left);
+    drop(left);
+    Ok((numbers, told?))
+}
+
+/// The record of c = z at 2.
+const C_IS_Z: [u8; 25] = [
+    0x4c, 0x53, 0x4d, 0x4c, 2, 0, 0, 0, 0, 0, 0, 0, 1, 0, 0, 0, 1, 0, 0, 1, 0, 0, 0, 0x63, 0x7a,
+];
+
+const RECORDS: [(&str, &[u8]); 2] = [("log/0", &A_IS_X), ("log/2", &C_IS_Z)];
+
+fn drop_and_crash(alloc: Global, tree: &mut Logged) -> Result<((u64, u64), (bool, bool)), Error> {
+    drop_one(alloc, tree)?;
+    let mut left = opened(alloc, left_with(alloc, tree, &RECORDS)?)?;
+    let told = merge_and_crash(alloc, &mut left);
+    drop(left);
+    told
+}
+
+fn dropped(alloc: Global) -> Result<((u64, u64), (bool, bool)), Error> {
+    let mut tree = fresh(alloc)?;
+    let told = drop_and_crash(alloc, &mut tree);
+    drop(tree);
+    told
+}
+
+/// Nor does a dropped entry come back by a removal of another key, and a merge that drops that.
+#[test]
+fn dropped_entries_stay_gone_after_a_merge(rt: HostRuntime) -> Result<(), Fail> {
+    let (numbers, shown) = dropped(rt.alloc())?;
+    assert_eq!(rt; numbers, (3, 6));
     assert_eq!(rt; shown, (true, true));
     Ok(())
 }

@@ -28,6 +28,33 @@ pub fn crashed(alloc: Global, tree: &Logged, picks: &[(&str, Pick<'_>)]) -> Resu
     opened(alloc, left(tree, picks)?)
 }
 
+/// Puts a record's file back, as by hand: no crash does, since what is removed is settled at once. It must be there then.
+pub fn put_back(
+    alloc: Global,
+    store: &mut MemStore,
+    name: &str,
+    record: &[u8],
+) -> Result<(), Error> {
+    let put = store.replace(name, record).is_ok();
+    match store.read(alloc, name) {
+        Ok(Some(read)) if put && read.as_slice() == record => Ok(()),
+        _ => Err(Error::Store),
+    }
+}
+
+/// The store that a crash leaves, to which records are put back.
+pub fn left_with(
+    alloc: Global,
+    tree: &Logged,
+    records: &[(&str, &[u8])],
+) -> Result<MemStore, Error> {
+    let mut store = left(tree, &[])?;
+    for (name, record) in records {
+        put_back(alloc, &mut store, name, record)?;
+    }
+    Ok(store)
+}
+
 /// The operation that sets a key to a value, or removes it.
 pub fn op(key: &'static str, value: Option<&'static str>) -> (UserKey, Op) {
     let op = match value {
@@ -64,15 +91,34 @@ pub fn shows(tree: &Logged, snapshot: u64, key: &str, value: Option<&str>) -> Re
     }
 }
 
-/// How many records the store has.
-pub fn count_records(alloc: Global, tree: &Logged) -> Result<usize, Error> {
+/// The names of the store.
+fn list(alloc: Global, tree: &Logged) -> Result<Vec<String>, Error> {
     let mut store = left(tree, &[])?;
     let listed = store.list(alloc);
     drop(store);
     match listed {
-        Ok(names) => Ok(names.iter().filter(|name| name.starts_with("log/")).count()),
+        Ok(names) => Ok(names),
         Err(_) => Err(Error::Store),
     }
+}
+
+/// Whether the names of the store that begin so are these, in whatever order.
+pub fn has_names(
+    alloc: Global,
+    tree: &Logged,
+    prefix: &str,
+    wanted: &[&str],
+) -> Result<bool, Error> {
+    let names = list(alloc, tree)?;
+    let count = names.iter().filter(|name| name.starts_with(prefix)).count();
+    let is_there = |wanted: &&str| names.iter().any(|name| name.as_str() == *wanted);
+    Ok(count == wanted.len() && wanted.iter().all(is_there))
+}
+
+/// How many records the store has.
+pub fn count_records(alloc: Global, tree: &Logged) -> Result<usize, Error> {
+    let names = list(alloc, tree)?;
+    Ok(names.iter().filter(|name| name.starts_with("log/")).count())
 }
 
 /// The bytes of a file, none where it isn't there.
