@@ -3,7 +3,7 @@ use crate::flushes::KEPT;
 use crate::rows::Row::{Does, Has, Shows};
 use crate::rows::{Count, Row};
 use crate::scripts::Opening::{Crashed, Failing};
-use crate::scripts::Part::{FlushOver, Merge, Plays, Reopen};
+use crate::scripts::Part::{FlushOver, Major, Plays, Reopen};
 use crate::scripts::{Alike, End, Script, play_alike, play_all};
 use crate::steps::Step::{Clear, Compact, Flush, Forget, Rotate, Set};
 use crate::steps::Told::{Declined, Done, Number, Refused, RefusedSealed, Sealed, Stale};
@@ -61,7 +61,7 @@ const SNAPSHOTS: [Script; 3] = [
             Does(Flush(0), Done),
             Does(Clear, Number(2)),
             Does(
-                Compact(Work::Choose(Kind::Move, &[0], 6)),
+                Compact(Work::Ask(Kind::Move, &[0], 6)),
                 Declined(Why::Missing),
             ),
             Shows("a", 2, "x"),
@@ -123,9 +123,7 @@ const LATE: [Script; 3] = [
         "a merge over a clear is stale",
         &[
             Plays(&[Does(Set("a", "x"), Number(0)), Does(Flush(0), Done)]),
-            Merge(
-                &[0],
-                6,
+            Major(
                 End::Finished(&[], &[Does(Clear, Number(2))]),
                 Declined(Why::Stale),
             ),

@@ -2,7 +2,7 @@
 use crate::flushes::KEPT;
 use crate::rows::Row::{Does, Has, Shows};
 use crate::rows::{Count, Row, TOO_OLD};
-use crate::samples::Edge::In;
+use crate::samples::Edge;
 use crate::scripts::Opening::Failing;
 use crate::scripts::Part::{Merge, Plays, Reopen};
 use crate::scripts::{Alike, End, Script, play_alike, play_all};
@@ -192,7 +192,7 @@ const OF_THREE: Alike = Alike {
 /// A third value of a, flushed.
 const THIRD: [Row; 2] = [Does(Set("a", "3"), Number(4)), Does(Flush(0), Done)];
 
-const OPEN: [Script; 4] = [
+const OPEN: [Script; 5] = [
     // What is in use is left alone until the merge is given up.
     (
         "tables of an open merge are hidden",
@@ -204,7 +204,7 @@ const OPEN: [Script; 4] = [
                 End::GivenUp(&[
                     Has(Count::Compacting, 1),
                     Does(Compact(Work::Major(0)), Nothing),
-                    Does(Compact(Work::DropRange(In(b"a"), In(b"z"))), Nothing),
+                    Does(Compact(Work::DropRange(Edge::Open, Edge::Open)), Nothing),
                     Does(
                         Compact(Work::Choose(Kind::Move, &[0], 6)),
                         Declined(Why::Hidden),
@@ -213,6 +213,24 @@ const OPEN: [Script; 4] = [
                 Nothing,
             ),
             Plays(&[Has(Count::Compacting, 0), Has(Count::Next, 5)]),
+        ],
+    ),
+    // `Busy`, until the merge is given up.
+    (
+        "fifo waits for an open merge of its only run",
+        &[
+            Plays(&KEPT),
+            Merge(
+                &[0],
+                6,
+                End::GivenUp(&[Does(Compact(Work::Fifo(1, None, 0)), Refused(16))]),
+                Nothing,
+            ),
+            Plays(&[
+                Has(Count::Tables, 1),
+                Does(Compact(Work::Fifo(1, None, 0)), Installed),
+                Has(Count::Tables, 0),
+            ]),
         ],
     ),
     (

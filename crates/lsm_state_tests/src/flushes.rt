@@ -1,12 +1,12 @@
 // Flushes of a tree, old snapshots over them, what a crash leaves, and what a store that fails.
 use crate::rows::Row::{Does, Has, Reads, Shows};
 use crate::rows::{Count, Row, TOO_OLD};
-use crate::scripts::Opening::{Crashed, Failing};
+use crate::scripts::Opening::{Before, Crashed, Failing};
 use crate::scripts::Part::{Fill, FlushGivenUp, FlushOver, Plays, Reopen};
 use crate::scripts::{Alike, Script, play_alike, play_all};
-use crate::steps::Step::{BeginFlush, Del, Flush, FlushParts, Rotate, Set, Weak};
+use crate::steps::Step::{BeginFlush, Del, Flush, FlushParts, FlushSized, Rotate, Set, Weak};
 use crate::steps::Told::{
-    Installed, Job, Nothing, Number, Refused, RefusedSealed, Sealed, Unclean,
+    Installed, Job, Nothing, Number, Refused, RefusedSealed, Sealed, Size, Unclean,
 };
 use lsm_state::Fault;
 
@@ -41,7 +41,7 @@ const SNAPSHOTS: [Script; 3] = [
         &[Plays(&[
             Does(Set("a", "x"), Number(0)),
             Does(Weak("a"), Number(1)),
-            Does(FlushParts(2), Installed),
+            Does(FlushSized(2), Size(99)),
             Has(Count::Tables, 0),
             Shows("a", 1, "x"),
             Shows("a", 2, ""),
@@ -124,7 +124,7 @@ const FLUSHED_AGAIN: [Row; 5] = [
     Has(Count::Tables, 2),
 ];
 
-const CRASHES: [Script; 4] = [
+const CRASHES: [Script; 6] = [
     (
         "a crash leaves what was flushed",
         &[
@@ -132,6 +132,36 @@ const CRASHES: [Script; 4] = [
             Plays(&[Does(Set("b", "y"), Number(2))]),
             Reopen(Crashed, 10),
             Plays(&[Shows("a", 10, "x"), Shows("b", 10, "")]),
+        ],
+    ),
+    // `v2` is written and synced, and `current` is what it was.
+    (
+        "a crash before a flush replaces current leaves what was flushed before",
+        &[
+            Plays(&KEPT),
+            Reopen(Failing(5, Fault::OnceDone), 2),
+            Plays(&[
+                Does(Set("b", "y"), Number(2)),
+                Does(FlushParts(0), Refused(3)),
+            ]),
+            Reopen(Before("current"), 10),
+            Plays(&[
+                Has(Count::Tables, 1),
+                Shows("a", 10, "x"),
+                Shows("b", 10, ""),
+            ]),
+        ],
+    ),
+    (
+        "a crash after a flush leaves both",
+        &[
+            Plays(&KEPT),
+            Plays(&[
+                Does(Set("b", "y"), Number(2)),
+                Does(FlushParts(0), Installed),
+            ]),
+            Reopen(Crashed, 10),
+            Plays(&[Shows("a", 10, "x"), Shows("b", 10, "y")]),
         ],
     ),
     // `CommitUnknown`, and then `Unrecoverable`.

@@ -3,8 +3,8 @@ use crate::rows::{Row, plays};
 use crate::steps::{Told, flushes_times, outcome, registered, written};
 use crate::works::{Kind, choose};
 use lsm_state::{
-    Begun, CompactionJob, Config, Error, Fault, Finished, MemStore, MergedCompaction, SeqNo,
-    TableId, TreeState,
+    Begun, CompactionJob, Config, Error, Fault, Finished, Major, MemStore, MergedCompaction, Pick,
+    SeqNo, TableId, TreeState,
 };
 use std::alloc::Global;
 use std::process::Abort;
@@ -12,6 +12,8 @@ use std::process::Abort;
 /// How a store comes to be opened again, as a crash leaves it.
 pub enum Opening {
     Crashed,
+    /// With this name as it was before the last call that changed it.
+    Before(&'static str),
     /// A call of it fails, 1 for the first after the opening.
     Failing(u64, Fault),
 }
@@ -29,14 +31,16 @@ pub enum End {
 /// A part of a script.
 pub enum Part {
     Plays(&'static [Row]),
-    /// A begins to be flushed so many times.
-    Fill(u32),
+    /// A is set to a new value and flushed so many times.
+    Fill(u8),
     /// A flush with rows before it is run and before its tables are registered, and how it ends.
     FlushOver(&'static [Row], &'static [Row], Told),
     /// A flush that is given up after these rows.
     FlushGivenUp(&'static [Row]),
     /// A merge of tables into a level, what becomes of its job, and what is answered.
     Merge(&'static [TableId], u8, End, Told),
+    /// A merge by `Major`, likewise.
+    Major(End, Told),
     /// The tree is opened again, with its counters from a number on.
     Reopen(Opening, SeqNo),
 }
@@ -64,8 +68,8 @@ pub fn open(alloc: Global, next: SeqNo, store: MemStore) -> Result<TreeState, Er
 }
 
 /// What a crash leaves of a store.
-fn crashed(store: &MemStore) -> Result<MemStore, Error> {
-    match store.crash(&[])? {
+fn crashed(store: &MemStore, picks: &[(&str, Pick<'_>)]) -> Result<MemStore, Error> {
+    match store.crash(picks)? {
         Some(left) => Ok(left),
         None => Err(Error::Unrecoverable),
     }
@@ -73,7 +77,7 @@ fn crashed(store: &MemStore) -> Result<MemStore, Error> {
 
 /// Whether a store isn't opened where this call fails.
 fn refuses(alloc: Global, store: &MemStore, call: u64) -> Result<bool, Error> {
-    let mut left = crashed(store)?;
+    let mut left = crashed(store, &[])?;
     left.fail(call, Fault::Once);
     match open(alloc, 0, left) {
         Ok(tree) => {
@@ -95,7 +99,10 @@ fn opening_calls(alloc: Global, store: &MemStore) -> Result<u64, Error> {
 }
 
 fn opened_as(alloc: Global, store: &MemStore, opening: &Opening) -> Result<MemStore, Error> {
-    let mut left = crashed(store)?;
+    if let Opening::Before(name) = opening {
+        return crashed(store, &[(*name, Pick::Before)]);
+    }
+    let mut left = crashed(store, &[])?;
     if let Opening::Failing(call, fault) = opening {
         let calls = opening_calls(alloc, store)?;
         left.fail(calls.saturating_add(*call), *fault);
@@ -193,7 +200,23 @@ fn merges(
     to: u8,
     end: &End,
 ) -> Result<Told, Error> {
-    match choose(alloc, tree, &Kind::Merge, list, to)? {
+    let begun = choose(alloc, tree, &Kind::Merge, list, to)?;
+    ended_if_begun(alloc, tree, begun, end)
+}
+
+fn merges_all(alloc: Global, tree: &mut TreeState, end: &End) -> Result<Told, Error> {
+    let options = tree.options_at(0);
+    let begun = tree.begin_compaction(&Major::new(u64::MAX), options)?;
+    ended_if_begun(alloc, tree, begun, end)
+}
+
+fn ended_if_begun(
+    alloc: Global,
+    tree: &mut TreeState,
+    begun: Begun,
+    end: &End,
+) -> Result<Told, Error> {
+    match begun {
         Begun::Job(job) => ended(alloc, tree, job, end),
         _ => Ok(Told::Wrong),
     }
@@ -212,6 +235,7 @@ fn is_right(alloc: Global, tree: &mut TreeState, part: &Part) -> bool {
         Part::Merge(list, to, end, told) => {
             outcome(merges(alloc, tree, *list, *to, end)) == *told
         }
+        Part::Major(end, told) => outcome(merges_all(alloc, tree, end)) == *told,
         Part::Reopen(..) => true,
     }
 }

@@ -27,6 +27,8 @@ pub enum Step {
     Forget,
     /// The active memtable is flushed in one call, at a watermark.
     Flush(SeqNo),
+    /// The same, and what is answered is the size of what was flushed.
+    FlushSized(SeqNo),
     /// It is flushed by the parts of a flush.
     FlushParts(SeqNo),
     /// A flush begins; its job is dropped.
@@ -41,6 +43,8 @@ pub enum Told {
     Number(SeqNo),
     /// The size of an entry, and that of its memtable.
     Sizes((u64, u64)),
+    /// The size of what was flushed.
+    Size(u64),
     Done,
     /// The memtable that was sealed, if anything was written to it.
     Sealed(Option<MemtableId>),
@@ -181,10 +185,24 @@ fn flush(tree: &mut TreeState, watermark: SeqNo) -> Told {
     }
 }
 
-/// Whether a is set and the active memtable, of that value of one letter, is flushed in one call, so many times.
-pub fn flushes_times(alloc: Global, tree: &mut TreeState, times: u32) -> bool {
-    for _ in 0..times {
-        let set = write(alloc, tree, "a", Op::Set(bytes("v")));
+fn flush_sized(tree: &mut TreeState, watermark: SeqNo) -> Told {
+    match tree.flush_active_memtable(watermark) {
+        Ok((_, Some((size, _)))) => Told::Size(size),
+        Ok((_, None)) => Told::Nothing,
+        Err((error, _)) => Told::Refused(error.number()),
+    }
+}
+
+/// Sets a to a value of one byte.
+fn set_byte(alloc: Global, tree: &mut TreeState, byte: u8) -> Result<SeqNo, Error> {
+    let value = UserKey::copy_from_slice(alloc, &[byte])?;
+    write(alloc, tree, "a", Op::Set(value))
+}
+
+/// Whether a is set to a new value of one byte and the active memtable, of that alone, is flushed in one call, so many times.
+pub fn flushes_times(alloc: Global, tree: &mut TreeState, times: u8) -> bool {
+    for byte in 0..times {
+        let set = set_byte(alloc, tree, byte);
         let flushed = tree.flush_active_memtable(0);
         if set.is_err() || !matches!(flushed, Ok((Some(_), Some((50, done)))) if done.installed) {
             return false;
@@ -216,6 +234,7 @@ pub fn take(alloc: Global, tree: &mut TreeState, step: &Step) -> Told {
         Step::Rotate => rotated(tree.rotate_memtable()),
         Step::Forget => done(tree.clear_active_memtable()),
         Step::Flush(watermark) => flush(tree, *watermark),
+        Step::FlushSized(watermark) => flush_sized(tree, *watermark),
         Step::FlushParts(watermark) => outcome(flush_by_parts(tree, *watermark)),
         Step::BeginFlush => is_job(tree.begin_flush()),
         Step::Compact(work) => outcome(compact(alloc, tree, work)),

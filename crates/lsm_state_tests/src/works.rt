@@ -2,7 +2,8 @@
 use crate::samples::{Edge, bounds};
 use crate::steps::Told;
 use lsm_state::{
-    Begun, Choice, Error, Fifo, Input, Leveled, Options, OwnedBounds, SeqNo, TableId, TreeState,
+    Begun, Choice, ChooseError, CompactionState, CompactionStrategy, Config, Error, Fifo, Input,
+    Leveled, Options, OwnedBounds, SeqNo, TableId, TreeState, Version,
 };
 use std::alloc::{AllocError, Global};
 use std::collections::HashSet;
@@ -19,9 +20,12 @@ pub enum Work {
     DropRange(Edge, Edge),
     /// Something is to become of tables of these ids, maybe in a level; the job of a merge is dropped, and so stays open.
     Choose(Kind, &'static [TableId], u8),
+    /// A strategy of one's own chooses likewise.
+    Ask(Kind, &'static [TableId], u8),
 }
 
 /// What is to become of tables.
+#[derive(Clone, Copy)]
 pub enum Kind {
     Move,
     Merge,
@@ -64,6 +68,34 @@ pub fn choose(
     tree.begin_choice(choice(alloc, kind, list, to)?, options)
 }
 
+/// A strategy that chooses these tables for a level, whatever there is.
+#[derive(Drop)]
+struct Chooser {
+    kind: Kind,
+    list: &'static [TableId],
+    to: u8,
+}
+
+impl CompactionStrategy for Chooser {
+    ghost may_choose = { λ s config hidden version choice. Unit {0} };
+
+    ghost may_refuse = { λ s config hidden version e. Unit {0} };
+
+    fn get_name(&self) -> &'static str {
+        "Chooser"
+    }
+
+    fn choose(
+        &self,
+        alloc: Global,
+        _version: &Version,
+        _config: &Config,
+        _state: &CompactionState,
+    ) -> Result<Choice, ChooseError> {
+        Ok(choice(alloc, &self.kind, self.list, self.to)?)
+    }
+}
+
 fn leveled(alloc: Global, tree: &mut TreeState, watermark: SeqNo) -> Result<Begun, Error> {
     tree.compact(&Leveled::new(alloc)?, watermark)
 }
@@ -90,6 +122,14 @@ fn begun(alloc: Global, tree: &mut TreeState, work: &Work) -> Result<Begun, Erro
             tree.drop_range(OwnedBounds { start, end })
         }
         Work::Choose(kind, list, to) => choose(alloc, tree, kind, list, *to),
+        Work::Ask(kind, list, to) => {
+            let chooser = Chooser {
+                kind: *kind,
+                list: *list,
+                to: *to,
+            };
+            tree.compact(&chooser, 0)
+        }
     }
 }
 

@@ -35,11 +35,12 @@ fn count(
 }
 
 /// The tables of a stream, its watermark, and how many entries it gives, or None where there is none.
-const ROWS: [(&[TableId], SeqNo, Option<usize>); 5] = [
+const ROWS: [(&[TableId], SeqNo, Option<usize>); 6] = [
     (&[0, 1], 0, Some(2)),
     (&[0, 1], 2, Some(1)),
     (&[2], 0, Some(1)),
     (&[], 0, Some(0)),
+    (&[666], 0, None),
     (&[0, 666], 0, None),
 ];
 
