@@ -165,6 +165,55 @@ fn cuts_and_changed_bytes_are_refused(rt: HostRuntime) -> Result<(), Fail> {
     Ok(())
 }
 
+/// The formats, and how long the file of a version of one table is.
+const OF_ONE: [(Format, usize); 2] = [(FORMAT_3, 178), (FORMAT_4, 203)];
+
+const ONE_TABLE_RUN: Runs = [&[1], &[]];
+
+/// How many lengths there are below that of a version's file of one table, up to the first to which a cut isn't refused.
+fn count_cuts(alloc: Global, store: &mut MemStore, format: Format) -> Result<usize, Fail> {
+    fill(alloc, store, format, ONE_TABLE_RUN, &[&TABLE])?;
+    let whole = store.read(alloc, "v5")?.ok_or("it is there")?;
+    for length in 0..whole.len() {
+        put_version(store, 5, &whole[..length])?;
+        if !answers(alloc, store, Some(UNRECOVERABLE))? {
+            return Ok(length);
+        }
+    }
+    Ok(whole.len())
+}
+
+/// The same of the file of its table, whose sum is made again.
+fn count_table_cuts(alloc: Global, store: &mut MemStore, format: Format) -> Result<usize, Fail> {
+    for length in 0..TABLE.len() {
+        fill(alloc, store, format, ONE_TABLE_RUN, &[&TABLE[..length]])?;
+        if !answers(alloc, store, Some(UNRECOVERABLE))? {
+            return Ok(length);
+        }
+    }
+    Ok(TABLE.len())
+}
+
+fn count_all_cuts(
+    alloc: Global,
+    store: &mut MemStore,
+    format: Format,
+) -> Result<(usize, usize), Fail> {
+    let cuts = count_cuts(alloc, store, format)?;
+    Ok((cuts, count_table_cuts(alloc, store, format)?))
+}
+
+#[test]
+fn cuts_in_a_store_of_one_table_are_refused(rt: HostRuntime) -> Result<(), Fail> {
+    for (format, length) in OF_ONE {
+        let mut store = MemStore::new(rt.alloc());
+        let cuts = count_all_cuts(rt.alloc(), &mut store, format);
+        drop(store);
+        assert_eq!(rt; cuts?, (length, 37));
+    }
+    Ok(())
+}
+
 /// How many sections there are, where the version's file with each of them twice is refused so.
 fn count_doubled(
     alloc: Global,
