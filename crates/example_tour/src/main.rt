@@ -23,11 +23,7 @@ fn open(rt: &HostRuntime) -> Result<Tour> {
 }
 
 /// Writes these keys as one batch.
-fn write(
-    alloc: Global,
-    tree: &mut Tour,
-    pairs: &[(&'static [u8], &'static [u8])],
-) -> Result<()> {
+fn write(alloc: Global, tree: &mut Tour, pairs: &[(&'static [u8], &'static [u8])]) -> Result<()> {
     let mut ops = Vec::with_capacity(alloc, pairs.len())?;
     for (key, value) in pairs {
         let value = UserValue::from_static(value);
