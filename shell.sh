@@ -16,7 +16,7 @@ crate=$root/crates/lsm_shell
 program=$crate/out/lsm_shell
 
 # The line with which the program refuses its arguments.
-usage='usage: lsm_shell [--quiet] [FOLDER | logged [FOLDER] | threads N]'
+usage='usage: lsm_shell [FOLDER | logged [FOLDER] | threads N]'
 
 # How many crates of tests are built at a time. Each takes more than one processor, and up to 2 GB.
 jobs=3
@@ -34,13 +34,12 @@ require_rt() {
 
 print_help() {
     cat << 'HELP'
-usage: ./shell.sh [--quiet] [FOLDER | logged [FOLDER] | threads N]
+usage: ./shell.sh [FOLDER | logged [FOLDER] | threads N]
        ./shell.sh --build | --test | --version | --help
 
   FOLDER     answers lines over the tree of a folder, which is made where it is absent;
-             without it over a tree in memory. A folder whose name is an option here is given as ./--build
+             without it over a tree in memory. A folder whose name begins with -- is given as ./--name
   logged     the same with a write log: no write that was answered is lost. A folder of that name is ./logged
-  --quiet    says nothing on standard error of long work, which the proved program does where that is a terminal
   threads N  starts N callers, 1 to 64, on one tree, and says whether each read what it wrote
   --build    proves each crate and makes the program: 20 minutes to an hour from nothing, on four cores.
              Without it a quick build of about a minute, of which nothing is proved, answers at the end of the input
@@ -52,10 +51,10 @@ Lines of the input, words between single spaces; S is a snapshot, W a watermark,
   get K [S]   range LO HI [S]   prefix P [S]  read a key, the keys from LO on and below HI, those that begin with P
   rotate   flush W                            seal the memtable; write all memtables to tables
   compact leveled W   compact major W   compact fifo LIMIT TTL W   drop LO HI   clear   now N
-  stats   levels   crash   reopen                      docs/SHELL.md says what each line does and prints
+  stats   crash   reopen                      docs/SHELL.md says what each line does and prints
 
 Status:
-  0    the input has ended; every caller read what it wrote
+  0    the input has ended, also where lines were refused; every caller read what it wrote
   1    a fault of the input or the output; the tree couldn't be opened; a caller read something else; a test failed
   2    other arguments than these
   6    the quick build gave no answer: it wasn't built, or took more than a minute or 1 MiB of output
@@ -82,11 +81,11 @@ is_text() {
     printf '%s' "$1" | iconv -f UTF-8 -t UTF-8 > /dev/null 2>&1
 }
 
-# Ends with the program's usage line where the program would.
+# Ends with the program's usage line where the program would, and at an option that is none of this script's.
 check_arguments() {
-    if [ "${1-}" = --quiet ]; then
-        shift
-    fi
+    case ${1-} in
+    --*) refuse ;;
+    esac
     case $# in
     0) ;;
     1)
@@ -136,10 +135,6 @@ build() {
 # which it removes, so a folder is named from the root on.
 try() {
     require_rt
-    # Its standard error is no terminal.
-    if [ "${1-}" = --quiet ]; then
-        shift
-    fi
     case $#:${1-}:${2-} in
     1:logged: | 1:/*) ;;
     1:*) set -- "$PWD/$1" ;;

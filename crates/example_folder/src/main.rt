@@ -4,36 +4,39 @@
 #![tactic(auto)]
 
 use anyhow::Result;
-use lsm_tree::{Config, FolderStore, IterGuard, Logged, Op, Store, UserKey};
+use lsm_tree::{Config, FolderStore, IterGuard, Logged, Op, UserKey};
 use std::alloc::Global;
 
+type Runs = Logged<FolderStore<HostRuntime>>;
+
 /// The tree that the folder holds, with all that was acknowledged before, or a new one.
-fn open(rt: &HostRuntime) -> Result<Logged<FolderStore<HostRuntime>>> {
+fn open(rt: &HostRuntime) -> Result<Runs> {
     let alloc = rt.alloc();
     let store = FolderStore::new(rt, alloc, "runs")?;
-    let tree = Logged::open(alloc, Config::new(0, 0, 0), store).map_err(|refused| refused.0)?;
-    Ok(tree)
+    let opened = Logged::open(alloc, Config::new(0, 0, 0), store);
+    Ok(opened.map_err(|(error, store)| store.explain(error))?)
 }
 
 /// Writes one key more than there are. Once it is answered, no crash takes it.
-fn add_run<S: Store>(alloc: Global, tree: &mut Logged<S>) -> Result<()> {
+fn add_run(alloc: Global, tree: &mut Runs) -> Result<()> {
     let reads = tree.tree();
     let runs = reads.len(reads.visible_seqno().get(), None)?;
     let key = format!(in alloc; "run {}", runs.saturating_add(1))?;
     let key = UserKey::copy_from_slice(alloc, key.as_bytes())?;
-    tree.write(vec![in alloc; (key, Op::Set(UserKey::from_static(b"done")))]?)?;
+    let written = tree.write(vec![in alloc; (key, Op::Set(UserKey::from_static(b"done")))]?);
+    written.map_err(|error| tree.store().explain(error))?;
     Ok(())
 }
 
 /// Writes all that is only in the log to a table, so that the log doesn't grow on.
-fn flush_all<S: Store>(tree: &mut Logged<S>) -> Result<()> {
+fn flush_all(tree: &mut Runs) -> Result<()> {
     let watermark = tree.tree().visible_seqno().get();
-    tree.flush_active_memtable(watermark)
-        .map_err(|refused| refused.0)?;
+    let flushed = tree.flush_active_memtable(watermark);
+    flushed.map_err(|(error, _)| tree.store().explain(error))?;
     Ok(())
 }
 
-fn list_runs<S: Store>(rt: &impl Print, tree: &Logged<S>) -> Result<()> {
+fn list_runs(rt: &impl Print, tree: &Runs) -> Result<()> {
     let reads = tree.tree();
     for pair in reads.iter(reads.visible_seqno().get(), None)? {
         let (key, value) = pair.into_inner()?;

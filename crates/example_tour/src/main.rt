@@ -5,54 +5,55 @@
 
 use anyhow::{Result, anyhow};
 use lsm_dump_parts::run_dump;
-use lsm_tree::{Config, FolderStore, Logged, Op, Store, UserKey, UserValue};
+use lsm_tree::{Config, FolderStore, Logged, Op, UserKey, UserValue};
 use std::alloc::{AllocError, Global};
 use std::fs;
 use std::ops::Bound;
 
 const FOLDER: &str = "tour";
 
+type Tour = Logged<FolderStore<HostRuntime>>;
+
 /// The tree that the folder holds, or a new one.
-fn open(rt: &HostRuntime) -> Result<Logged<FolderStore<HostRuntime>>> {
+fn open(rt: &HostRuntime) -> Result<Tour> {
     let alloc = rt.alloc();
     let store = FolderStore::new(rt, alloc, FOLDER)?;
-    let tree = Logged::open(alloc, Config::new(0, 0, 0), store).map_err(|refused| refused.0)?;
-    Ok(tree)
+    let opened = Logged::open(alloc, Config::new(0, 0, 0), store);
+    Ok(opened.map_err(|(error, store)| store.explain(error))?)
 }
 
 /// Writes these keys as one batch.
-fn write<S: Store>(
-    alloc: Global,
-    tree: &mut Logged<S>,
-    pairs: &[(&'static [u8], &'static [u8])],
-) -> Result<()> {
+fn write(alloc: Global, tree: &mut Tour, pairs: &[(&'static [u8], &'static [u8])]) -> Result<()> {
     let mut ops = Vec::with_capacity(alloc, pairs.len())?;
     for (key, value) in pairs {
         let value = UserValue::from_static(value);
         ops.push((UserKey::from_static(key), Op::Set(value)))?;
     }
-    tree.write(ops)?;
+    let written = tree.write(ops);
+    written.map_err(|error| tree.store().explain(error))?;
     Ok(())
 }
 
 /// Removes a key.
-fn remove<S: Store>(alloc: Global, tree: &mut Logged<S>, key: &'static [u8]) -> Result<()> {
-    tree.write(vec![in alloc; (UserKey::from_static(key), Op::Del)]?)?;
+fn remove(alloc: Global, tree: &mut Tour, key: &'static [u8]) -> Result<()> {
+    let removed = tree.write(vec![in alloc; (UserKey::from_static(key), Op::Del)]?);
+    removed.map_err(|error| tree.store().explain(error))?;
     Ok(())
 }
 
 /// Writes all that is only in the log to a table. Old versions that no reader needs may go.
-fn flush<S: Store>(tree: &mut Logged<S>) -> Result<()> {
+fn flush(tree: &mut Tour) -> Result<()> {
     let watermark = tree.tree().visible_seqno().get();
-    tree.flush_active_memtable(watermark)
-        .map_err(|refused| refused.0)?;
+    let flushed = tree.flush_active_memtable(watermark);
+    flushed.map_err(|(error, _)| tree.store().explain(error))?;
     Ok(())
 }
 
 /// Merges all tables into the last level.
-fn merge<S: Store>(tree: &mut Logged<S>) -> Result<()> {
+fn merge(tree: &mut Tour) -> Result<()> {
     let watermark = tree.tree().visible_seqno().get();
-    tree.major_compact(u64::MAX, watermark)?;
+    let merged = tree.major_compact(u64::MAX, watermark);
+    merged.map_err(|error| tree.store().explain(error))?;
     Ok(())
 }
 
@@ -84,7 +85,7 @@ fn look(rt: &HostRuntime, words: &[&str]) -> Result<()> {
 }
 
 /// Writes, flushes, merges, and looks after each.
-fn work(rt: &HostRuntime, tree: &mut Logged<FolderStore<HostRuntime>>) -> Result<()> {
+fn work(rt: &HostRuntime, tree: &mut Tour) -> Result<()> {
     let alloc = rt.alloc();
     write(alloc, tree, &[(b"apple", b"red"), (b"plum", b"blue")])?;
     write(alloc, tree, &[(b"pear", b"green")])?;
@@ -108,7 +109,7 @@ fn work(rt: &HostRuntime, tree: &mut Logged<FolderStore<HostRuntime>>) -> Result
 }
 
 /// Lists what the tree shows.
-fn list<S: Store>(rt: &impl Print, tree: &Logged<S>) -> Result<()> {
+fn list(rt: &impl Print, tree: &Tour) -> Result<()> {
     let reads = tree.tree();
     let all = (Bound::Unbounded, Bound::Unbounded);
     for (key, value) in reads.pairs(&all, reads.visible_seqno().get(), None)? {

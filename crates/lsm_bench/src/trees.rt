@@ -30,7 +30,7 @@ type Flushed = Result<(Option<MemtableId>, Option<(u64, Registered)>), (Error, O
 
 /// A tree with one owner, with its counters above what the store holds.
 fn open_owned<S: Store>(alloc: Global, store: S) -> Result<TreeState<S>, Error> {
-    match TreeState::open_raised(alloc, START, store) {
+    match TreeState::open_unlogged(alloc, START, store) {
         Ok(tree) => Ok(tree),
         Err((error, _)) => Err(error),
     }
@@ -47,7 +47,7 @@ impl<S: Store + Send> AnyTree<S> {
         match kind {
             Kind::Owned => Ok(AnyTree::Owned(open_owned(alloc, store)?)),
             Kind::Locked => Ok(AnyTree::Locked(open_locked(alloc, store)?)),
-            Kind::Recorded => match Recorded::open(alloc, START, store) {
+            Kind::Recorded => match Recorded::open_unlogged(alloc, START, store) {
                 Ok(tree) => Ok(AnyTree::Recorded(tree, Pass::new(alloc))),
                 Err((error, _)) => Err(error),
             },

@@ -24,7 +24,7 @@ fn text(letters: &'static str) -> UserKey {
 
 /// A new tree with one owner. It keeps no call history: `Recorded` does, for those who ask for one.
 fn open(alloc: Global) -> Result<TreeState> {
-    let opened = TreeState::open(alloc, Config::new(0, 0, 0), MemStore::new(alloc));
+    let opened = TreeState::open_unlogged(alloc, Config::new(0, 0, 0), MemStore::new(alloc));
     Ok(opened.map_err(|refused| refused.0)?)
 }
 

@@ -1,14 +1,17 @@
 //! A shell over a versioned tree: it reads lines, asks the tree, and prints the answers (`lsm_shell_parts`).
 #![tactic(auto)]
 
-use lsm_shell_parts::{Console, Watch, list_arguments, run_shell};
-use std::io::{IsTerminal, Stderr};
+use lsm_shell_parts::{Console, Watch, run_shell};
+use std::env;
+use std::io::{self, ErrorKind, IsTerminal, Stderr};
 use std::process::ExitCode;
 use std::time::Duration;
 
 fn main(rt: HostRuntime) -> ExitCode {
-    let Ok(arguments) = list_arguments(&rt) else {
-        return ExitCode::FAILURE;
+    let arguments = match list_arguments(&rt) {
+        Ok(words) => Some(words),
+        Err(error) if error.kind() == ErrorKind::InvalidData => None,
+        Err(_) => return ExitCode::FAILURE,
     };
     let words = arguments.as_ref().map(|words| words.as_slice());
     let console = Console {
@@ -20,6 +23,12 @@ fn main(rt: HostRuntime) -> ExitCode {
     };
     let status = run_shell(&rt, rt.alloc(), words, console);
     ExitCode::from(status)
+}
+
+/// The program's arguments, without its name. One that is no text is an error of the kind `InvalidData`.
+fn list_arguments(rt: &HostRuntime) -> io::Result<Vec<String>> {
+    let words = env::args(rt)?.skip(1).collect(rt.alloc())?;
+    Ok(words)
 }
 
 /// For how many seconds work goes on unseen.

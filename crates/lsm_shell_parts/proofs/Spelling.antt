@@ -5,7 +5,7 @@ use Rattle.std.proofs.lemmas.List.Splits.{slice_split_at, join_with_byte-slice_s
 use Rattle.std.specs.List.{list_all, join_with_byte}
 use Rattle.std.specs.Prelude.{codes, option_map, option_and_then}
 use Rattle.lsm_shell_parts.specs.declared.command.Command.{Command}
-use Rattle.lsm_shell_parts.specs.declared.command.Command.TheVariants.{Put, Del, Weak, Get, Range, Prefix, Rotate, Flush, Compact, DropRange, Clear, Now, Stats, Levels, Crash, Reopen}
+use Rattle.lsm_shell_parts.specs.declared.command.Command.TheVariants.{Put, Del, Weak, Get, Range, Prefix, Rotate, Flush, Compact, DropRange, Clear, Now, Stats, Crash, Reopen}
 use Rattle.lsm_shell_parts.specs.declared.command.Plan.TheVariants.{Leveled, Major, Fifo}
 use Rattle.lsm_shell_parts.specs.Bounds.{included_of, excluded_of, prefix_of, included_word, excluded_word, prefix_word}
 use Rattle.lsm_shell_parts.specs.Word.{is_word, parts_of, words_of}
@@ -45,7 +45,6 @@ name_of verb.Drop = codes "drop"
 name_of verb.Clear = codes "clear"
 name_of verb.Now = codes "now"
 name_of verb.Stats = codes "stats"
-name_of verb.Levels = codes "levels"
 name_of verb.Crash = codes "crash"
 name_of verb.Reopen = codes "reopen"
 
@@ -135,7 +134,6 @@ with_spells verb.Drop (low ∷ high ∷ []) all = (drop_words low high, tt)
 with_spells verb.Clear [] all = (refl, tt)
 with_spells verb.Now (w ∷ []) all = numbered (λ n. Now n) (λ u. codes "now" ∷ u ∷ []) w _ refl (λ n h. (refl, h))
 with_spells verb.Stats [] all = (refl, tt)
-with_spells verb.Levels [] all = (refl, tt)
 with_spells verb.Crash [] all = (refl, tt)
 with_spells verb.Reopen [] all = (refl, tt)
 with_spells other words all = tt
@@ -216,7 +214,6 @@ asked_by_words (DropRange low high) h all =
 asked_by_words Clear h all = (omega arith, refl)
 asked_by_words (Now n) h all = (omega arith, ap (option_map (λ m. Now m)) (plain_number-decimal (decimal n) n h refl))
 asked_by_words Stats h all = (omega arith, refl)
-asked_by_words Levels h all = (omega arith, refl)
 asked_by_words Crash h all = (omega arith, refl)
 asked_by_words Reopen h all = (omega arith, refl)
 

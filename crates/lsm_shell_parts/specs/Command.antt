@@ -5,7 +5,7 @@ use Rattle.lsm_below.specs.Numbers.{plain_number}
 use Rattle.lsm_shell_parts.specs.Verbs.{verb_of}
 use Rattle.lsm_shell_parts.specs.Word.{words_of}
 use Rattle.lsm_shell_parts.specs.declared.command.Command.{Command}
-use Rattle.lsm_shell_parts.specs.declared.command.Command.TheVariants.{Put, Del, Weak, Get, Range, Prefix, Rotate, Flush, Compact, DropRange, Clear, Now, Stats, Levels, Crash, Reopen}
+use Rattle.lsm_shell_parts.specs.declared.command.Command.TheVariants.{Put, Del, Weak, Get, Range, Prefix, Rotate, Flush, Compact, DropRange, Clear, Now, Stats, Crash, Reopen}
 use Rattle.lsm_shell_parts.specs.declared.command.Plan.TheVariants.{Leveled, Major, Fifo}
 use Rattle.lsm_shell_parts.specs.declared.verb.Verb.{Verb}
 use Rattle.lsm_shell_parts.specs.declared.verb.Verb.TheVariants as verb
@@ -38,7 +38,6 @@ plain_with verb.Compact (plan ∷ numbers) = option_and_then (λ p. compaction_o
 plain_with verb.Clear [] = Some Clear
 plain_with verb.Now (moment ∷ []) = option_map (λ n. Now n) (plain_number moment)
 plain_with verb.Stats [] = Some Stats
-plain_with verb.Levels [] = Some Levels
 plain_with verb.Crash [] = Some Crash
 plain_with verb.Reopen [] = Some Reopen
 plain_with other words = None

@@ -4,7 +4,7 @@ use Rattle.std.specs.List.{list_all, join_with_byte}
 use Rattle.lsm_shell_parts.specs.Bounds.{included_word, excluded_word, prefix_word}
 use Rattle.lsm_shell_parts.specs.Word.{is_word}
 use Rattle.lsm_shell_parts.specs.declared.command.Command.{Command}
-use Rattle.lsm_shell_parts.specs.declared.command.Command.TheVariants.{Put, Del, Weak, Get, Range, Prefix, Rotate, Flush, Compact, DropRange, Clear, Now, Stats, Levels, Crash, Reopen}
+use Rattle.lsm_shell_parts.specs.declared.command.Command.TheVariants.{Put, Del, Weak, Get, Range, Prefix, Rotate, Flush, Compact, DropRange, Clear, Now, Stats, Crash, Reopen}
 use Rattle.lsm_shell_parts.specs.declared.command.Plan.TheVariants.{Leveled, Major, Fifo}
 
 -- the words that a command is written in
@@ -27,7 +27,6 @@ spelling_of (DropRange low high) = codes "drop" ∷ included_word low ∷ includ
 spelling_of Clear = codes "clear" ∷ []
 spelling_of (Now moment) = codes "now" ∷ decimal moment ∷ []
 spelling_of Stats = codes "stats" ∷ []
-spelling_of Levels = codes "levels" ∷ []
 spelling_of Crash = codes "crash" ∷ []
 spelling_of Reopen = codes "reopen" ∷ []
 

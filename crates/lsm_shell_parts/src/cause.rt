@@ -1,6 +1,6 @@
-// Why a store failed, or which file is damaged, as it is told beside an answer.
-use lsm_dump_parts::look_into;
-use lsm_tree::{Error, FolderFault, FolderStore, MemStore, Store};
+// Why a store failed, or what a refused opening fell on, as it is told beside an answer.
+use lsm_below::parse_number;
+use lsm_tree::{Error, FolderError, FolderFault, FolderStore, MemStore, Store};
 use std::alloc::{AllocError, Global};
 use std::fs::{File, Files};
 
@@ -16,6 +16,12 @@ pub trait SessionStore: Store {
     fn last_fault(&self) -> Option<&FolderFault> {
         None
     }
+
+    /// What a tree over the store refused, and the place where. The place is empty where the store tells none.
+    fn explain(&self, alloc: Global, error: Error) -> FolderError {
+        let place = String::new(alloc);
+        FolderError { place, error }
+    }
 }
 
 impl SessionStore for MemStore {
@@ -28,12 +34,16 @@ impl<P: Files<File = File> + Alloc + Clone + Drop> SessionStore for FolderStore<
     fn last_fault(&self) -> Option<&FolderFault> {
         FolderStore::last_fault(self)
     }
+
+    fn explain(&self, _alloc: Global, error: Error) -> FolderError {
+        FolderStore::explain(self, error)
+    }
 }
 
-/// What is told of a folder that has a write log.
-const HAS_LOG: &str = "log: open: the folder has a write log and is to be opened with `logged`";
+/// What is told of a record that counts, where the tree is opened without its log.
+const HAS_LOG: &str = "give `logged` before the folder";
 
-/// Why nothing was opened: the error, what it fell on, where that is known, and what can be done.
+/// Why nothing was opened: the error, what is told of it, where something is known, and what can be done.
 #[derive(Drop)]
 pub struct Refusal {
     pub error: Error,
@@ -41,12 +51,22 @@ pub struct Refusal {
     pub remedy: &'static str,
 }
 
+/// Whether a place is a record's, as `log/7: open`.
+fn is_record(place: &str) -> bool {
+    let (name, _) = place.split_once(':').unwrap_or((place, ""));
+    match name.strip_prefix("log/") {
+        Some(number) => parse_number(number.as_bytes()).is_some(),
+        None => false,
+    }
+}
+
 impl Refusal {
     pub(crate) fn new(error: Error, cause: Option<String>) -> Refusal {
         let remedy = match error {
             Error::OutOfMemory => "all tables are held in memory, and there isn't enough of it",
             Error::Store | Error::CommitUnknown => {
-                "see that the folder may be written, that its disk has room, and that no other session has it open"
+                "see that the folder is new or a tree's, that it may be written, that its disk has room, and that no other \
+                 session has it open"
             }
             Error::OutOfNumbers => "the sequence numbers of this folder are used up",
             _ => "nothing was changed: put the file back from a copy, or begin in another folder",
@@ -56,6 +76,24 @@ impl Refusal {
             cause,
             remedy,
         }
+    }
+
+    /// That of a tree over a store which tells this of it.
+    fn told(alloc: Global, told: FolderError, is_logged: bool) -> Refusal {
+        let place = told.place.as_str();
+        if !is_logged && told.error == Error::Unrecoverable && is_record(place) {
+            return Refusal {
+                cause: format!(in alloc; "{place}: {HAS_LOG}").ok(),
+                error: told.error,
+                remedy: "nothing was changed",
+            };
+        }
+        let cause = if place.is_empty() {
+            None
+        } else {
+            format!(in alloc; "{told}").ok()
+        };
+        Refusal::new(told.error, cause)
     }
 }
 
@@ -67,29 +105,10 @@ pub struct Unopened<S> {
 }
 
 impl<S: SessionStore> Unopened<S> {
-    /// A refused opening. The words are told where no file of the tree is damaged, and yet it is `Unrecoverable`.
-    pub(crate) fn new(alloc: Global, error: Error, store: S, otherwise: &str) -> Unopened<S> {
-        let mut store = store;
-        let cause = match error {
-            Error::Store | Error::CommitUnknown => fault_of(alloc, &store),
-            Error::Unrecoverable
-            | Error::InvalidVersion(_)
-            | Error::InvalidTag(_, _)
-            | Error::InvalidHeader(_)
-            | Error::ChecksumMismatch => damage_of(alloc, &mut store, &error, otherwise),
-            _ => None,
-        };
-        let refusal = Refusal::new(error, cause);
-        Unopened { refusal, store }
-    }
-
-    /// A store that is left alone, since records count in it, which only a tree with a log reads.
-    pub(crate) fn for_log(alloc: Global, store: S) -> Unopened<S> {
-        let refusal = Refusal {
-            error: Error::Unrecoverable,
-            cause: String::from_str(alloc, HAS_LOG).ok(),
-            remedy: "nothing was changed: give `logged` before the folder",
-        };
+    /// A refused opening, with a log or without.
+    pub(crate) fn new(alloc: Global, error: Error, store: S, is_logged: bool) -> Unopened<S> {
+        let told = store.explain(alloc, error);
+        let refusal = Refusal::told(alloc, told, is_logged);
         Unopened { refusal, store }
     }
 }
@@ -98,20 +117,4 @@ impl<S: SessionStore> Unopened<S> {
 pub(crate) fn fault_of<S: SessionStore>(alloc: Global, store: &S) -> Option<String> {
     let fault = store.last_fault()?;
     format!(in alloc; "{fault}").ok()
-}
-
-/// The first file of the tree itself that is damaged, in words; or these words, where none is.
-fn damage_of<S: Store>(
-    alloc: Global,
-    store: &mut S,
-    error: &Error,
-    otherwise: &str,
-) -> Option<String> {
-    let look = look_into(alloc, store).ok()?;
-    for damage in &look.faults {
-        if !damage.file.starts_with("log/") {
-            return format!(in alloc; "{}: open: {error}", damage.file).ok();
-        }
-    }
-    String::from_str(alloc, otherwise).ok()
 }

@@ -51,8 +51,6 @@ pub enum Command {
     Now(u64),
     /// Count tables, runs, sealed memtables, entries and bytes.
     Stats,
-    /// Draw the levels.
-    Levels,
     /// Crash the store.
     Crash,
     /// Open the tree again from its store.
@@ -165,7 +163,6 @@ fn parse_plain(verb: Verb, words: &[&[u8]]) -> Option<Command>
         (Verb::Clear, []) => Some(Command::Clear),
         (Verb::Now, [moment]) => parse_number(moment).map(Command::Now),
         (Verb::Stats, []) => Some(Command::Stats),
-        (Verb::Levels, []) => Some(Command::Levels),
         (Verb::Crash, []) => Some(Command::Crash),
         (Verb::Reopen, []) => Some(Command::Reopen),
         _ => None,

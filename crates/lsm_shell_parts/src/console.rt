@@ -8,7 +8,7 @@ use std::io::Write;
 /// The lines that there are.
 const LINES: &str =
     "lines: put K V, del K, weak K, get K [S], range LO HI [S], prefix P [S], rotate, \
-flush W, compact leveled W, compact major W, compact fifo LIMIT TTL W, drop LO HI, clear, now N, stats, levels, crash, reopen";
+flush W, compact leveled W, compact major W, compact fifo LIMIT TTL W, drop LO HI, clear, now N, stats, crash, reopen";
 
 /// What the program reads lines from, and writes answers and errors to.
 #[derive(Drop)]

@@ -7,12 +7,11 @@
 //! | `bounds` | the bounds and prefixes that words give |
 //! | `command`, `verb` | what a line asks, and the words that lines begin with |
 //! | `reply` | what is printed for a line |
-//! | `cause` | why a store failed, or which file is damaged |
+//! | `cause` | why a store failed, or what a refused opening fell on |
 //! | `tree` | the tree of a session, with its call history or with a log above it |
 //! | `session` | a tree that answers commands |
 //! | `arguments` | what the program's arguments ask |
 //! | `console` | where lines come from, and where answers and hints go |
-//! | `drawing` | the levels of a tree, drawn with characters |
 //! | `watched` | a store that says how far long work is |
 //! | `threads` | callers in threads of their own, on one tree |
 //! | `shell` | the run from the first line to the last |
@@ -23,7 +22,6 @@ mod bounds;
 mod cause;
 mod command;
 mod console;
-mod drawing;
 mod reply;
 mod session;
 mod shell;
@@ -34,6 +32,5 @@ mod watched;
 mod word;
 
 pub use console::Console;
-pub use lsm_dump_parts::list_arguments;
 pub use shell::run_shell;
 pub use watched::Watch;

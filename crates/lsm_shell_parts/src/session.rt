@@ -1,7 +1,6 @@
 // A tree that answers commands.
 use crate::cause::{Refusal, SessionStore, Unopened, fault_of};
 use crate::command::{Command, Plan, parse};
-use crate::drawing::draw_levels;
 use crate::reply::Reply;
 use crate::tree::SessionTree;
 use lsm_below::{SeqNo, UserKey};
@@ -152,7 +151,6 @@ fn run_on<S: SessionStore>(
             Ok(Reply::Word("ok"))
         }
         Command::Stats => Ok(Reply::Lines(count(alloc, tree.tree())?)),
-        Command::Levels => Ok(Reply::Lines(draw_levels(alloc, tree.tree().current_version())?)),
         Command::Crash | Command::Reopen => Ok(Reply::Usage),
     }
 }

@@ -24,20 +24,17 @@ const FAULT: u8 = 1;
 
 const USAGE: u8 = 2;
 
-/// Stands before the other arguments, where long work isn't to show itself.
-const QUIET: &str = "--quiet";
-
 /// Does what the arguments ask, and gives the status to end with.
 ///
 /// Without arguments it answers the lines of the input on the output, from a tree over a store in memory, and with one
 /// that isn't empty from a tree over that folder: 0 at the end of the input, 1 after a fault of the input or the output,
 /// or where the tree can't be opened, which it prints. With `logged` before that, the tree has a log above it, and no write
-/// that was answered is lost; without it a folder isn't opened in which records of a log count. With `threads N` it starts N
+/// that was answered is lost; without it a folder isn't opened in which a record of a log counts. With `threads N` it starts N
 /// callers on one tree: 0 where each read what it wrote, else 1. With any other arguments, 2; `arguments` is None where one
 /// of them is no text.
 ///
 /// Beside the answers it writes to the errors why a call of the store failed, which file keeps a folder from being
-/// opened, and, where the console has a watch and `--quiet` doesn't stand before the other arguments, how far long work is.
+/// opened, and, where the console has a watch, how far long work is.
 ///
 /// Where a line finds no memory, its answer says so, and the run goes on with the next line. Where
 /// the buffers of the input or the output find none, the status is 1.
@@ -53,18 +50,14 @@ where
     W: Write + Drop,
     E: Write + Drop,
 {
-    let (watch, arguments) = match arguments {
-        Some([first, rest @ ..]) if first.as_str() == QUIET => (None, Some(rest)),
-        _ => (console.watch, arguments),
-    };
-    let (input, output) = (console.input, console.output);
+    let (input, output, watch) = (console.input, console.output, console.watch);
     let mut errors = Errors {
         errors: console.errors,
         is_terminal: console.is_terminal,
         long: watch.as_ref().map(|watch| watch.entries),
     };
     let Some(mode) = arguments.and_then(parse_arguments) else {
-        errors.tell("usage: lsm_shell [--quiet] [FOLDER | logged [FOLDER] | threads N]");
+        errors.tell("usage: lsm_shell [FOLDER | logged [FOLDER] | threads N]");
         return USAGE;
     };
     let told = match mode {

@@ -18,9 +18,8 @@ pub fn call_all<R: Threads + Wait + Sync>(
     alloc: Global,
     callers: u8,
 ) -> Result<Option<usize>, Error> {
-    let core = Recorded::open(alloc, Config::new(0, 0, 0), MemStore::new(alloc)).map_err(
-        |refused| refused.0,
-    )?;
+    let opened = Recorded::open_unlogged(alloc, Config::new(0, 0, 0), MemStore::new(alloc));
+    let core = opened.map_err(|refused| refused.0)?;
     let tree = Handle::new(alloc, core)?;
     let told = thread::map_indices(
         rt,

@@ -3,18 +3,17 @@ use crate::cause::{SessionStore, Unopened};
 use lsm_below::{MemtableId, SeqNo, UserKey, UserValue};
 use lsm_tree::{
     Begun, CompactionStrategy, Config, Error, Logged, Op, OwnedBounds, Pass, Recorded, Registered,
-    TreeIter, TreeState, has_log,
+    TreeIter, TreeState,
 };
 use std::alloc::Global;
 use std::ops::Bound;
 
-/// What keeps a tree from being opened where none of its files is damaged.
-const OUT_OF_ORDER: &str = "tables: open: entries of a key are out of order";
-
-/// The same of a log that is only looked at, and of one that is read.
-const NOT_A_RECORD: &str = "log: open: a name is none of a record";
-
-const BAD_LOG: &str = "log: open: a record is damaged, or a name is none of a record";
+/// Each opening raises the counters above all that the store holds.
+const START: Config = Config {
+    id: 0,
+    seqno: 0,
+    visible_seqno: 0,
+};
 
 /// What a session asks of its tree. Each method does what that of the same name of the tree does.
 #[derive(Drop)]
@@ -25,29 +24,19 @@ pub enum SessionTree<S: SessionStore> {
     Logged(Logged<S>),
 }
 
-/// Opens a tree without its log. A store in which a record of a log counts isn't opened: a flush would pass what the record
-/// holds.
-fn open_plain<S: SessionStore>(alloc: Global, store: S) -> Result<Recorded<S>, Unopened<S>> {
-    let store = match has_log(alloc, store) {
-        Ok((false, store)) => store,
-        Ok((true, store)) => return Err(Unopened::for_log(alloc, store)),
-        Err((error, store)) => return Err(Unopened::new(alloc, error, store, NOT_A_RECORD)),
-    };
-    match Recorded::open(alloc, Config::new(0, 0, 0), store) {
-        Ok(tree) => Ok(tree),
-        Err((error, store)) => Err(Unopened::new(alloc, error, store, OUT_OF_ORDER)),
-    }
-}
-
 impl<S: SessionStore> SessionTree<S> {
-    /// The tree that a store holds, or a new one. Its counters stand above each sequence number that the store holds.
+    /// The tree that a store holds, or a new one. Without a log a store in which a record of one counts is refused: a flush
+    /// would pass what the record holds.
     pub fn open(alloc: Global, store: S, is_logged: bool) -> Result<SessionTree<S>, Unopened<S>> {
-        if !is_logged {
-            return Ok(SessionTree::Plain(alloc, open_plain(alloc, store)?));
+        if is_logged {
+            return match Logged::open(alloc, START, store) {
+                Ok(tree) => Ok(SessionTree::Logged(tree)),
+                Err((error, store)) => Err(Unopened::new(alloc, error, store, is_logged)),
+            };
         }
-        match Logged::open(alloc, Config::new(0, 0, 0), store) {
-            Ok(tree) => Ok(SessionTree::Logged(tree)),
-            Err((error, store)) => Err(Unopened::new(alloc, error, store, BAD_LOG)),
+        match Recorded::open_unlogged(alloc, START, store) {
+            Ok(tree) => Ok(SessionTree::Plain(alloc, tree)),
+            Err((error, store)) => Err(Unopened::new(alloc, error, store, is_logged)),
         }
     }
 

@@ -21,13 +21,12 @@ pub enum Verb {
     Clear,
     Now,
     Stats,
-    Levels,
     Crash,
     Reopen,
 }
 
 /// The words, and what they stand for.
-const VERBS: [(&[u8], Verb); 19] = [
+const VERBS: [(&[u8], Verb); 18] = [
     (b"put", Verb::Put),
     (b"del", Verb::Del),
     (b"weak", Verb::Weak),
@@ -44,7 +43,6 @@ const VERBS: [(&[u8], Verb); 19] = [
     (b"clear", Verb::Clear),
     (b"now", Verb::Now),
     (b"stats", Verb::Stats),
-    (b"levels", Verb::Levels),
     (b"crash", Verb::Crash),
     (b"reopen", Verb::Reopen),
 ];

@@ -1,7 +1,7 @@
 // A store that says how far long work is, for whoever waits for it.
 use crate::cause::SessionStore;
 use bytes::Bytes;
-use lsm_tree::{FolderFault, Store, StoreError};
+use lsm_tree::{Error, FolderError, FolderFault, Store, StoreError};
 use std::alloc::Global;
 use std::io::Write;
 use std::time::{Clock, Duration, Instant};
@@ -178,5 +178,9 @@ impl<S: SessionStore, C: Clock + Drop, E: Write + Drop> Store for WatchedStore<S
 impl<S: SessionStore, C: Clock + Drop, E: Write + Drop> SessionStore for WatchedStore<S, C, E> {
     fn last_fault(&self) -> Option<&FolderFault> {
         self.inner.last_fault()
+    }
+
+    fn explain(&self, alloc: Global, error: Error) -> FolderError {
+        self.inner.explain(alloc, error)
     }
 }

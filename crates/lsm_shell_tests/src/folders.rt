@@ -117,6 +117,18 @@ fn refused_folders_are_told(rt: HostRuntime) -> Result<(), Fail> {
     Ok(())
 }
 
+/// A single argument names a folder, also where it looks like an option.
+#[test]
+fn an_option_names_a_folder(rt: HostRuntime) -> Result<(), Fail> {
+    let alloc = rt.alloc();
+    let folder = "--lsm_shell_option";
+    drop(filled(&rt, alloc, folder)?);
+    let read = b"value x\nok 1\na x\nb y\nend 2\n";
+    assert!(rt; answers_over(&rt, alloc, folder, (read, b"", 0))?);
+    fs::remove_dir_all(&rt, folder)?;
+    Ok(())
+}
+
 /// Why a call of the store failed is written to the errors, and the answer stays what it is.
 #[test]
 fn causes_are_told(rt: HostRuntime) -> Result<(), Fail> {

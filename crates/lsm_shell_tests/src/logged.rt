@@ -4,11 +4,26 @@ use std::fs::{self, File, Files};
 use std::io::{self, Read};
 use std::test::Fail;
 
-/// What is told of a folder in which a record counts.
-const HAS_LOG: &[u8] = b"log: open: the folder has a write log and is to be opened with `logged`\n";
+/// What is told of a folder in which record 0 counts, where it is opened without a log.
+const HAS_0: &[u8] =
+    b"log/0: open: a record of a write log, which only a logged tree reads: give `logged` before the folder\n";
 
-/// What is told of a log that is damaged.
-const BAD_LOG: &[u8] = b"log: open: a record is damaged, or a name is none of a record\n";
+/// The same of record 5.
+const HAS_5: &[u8] =
+    b"log/5: open: a record of a write log, which only a logged tree reads: give `logged` before the folder\n";
+
+/// The same of record 7.
+const HAS_7: &[u8] =
+    b"log/7: open: a record of a write log, which only a logged tree reads: give `logged` before the folder\n";
+
+/// What is told of record 7 with a log, where it is damaged.
+const BAD_7: &[u8] = b"log/7: open: the files can't be used, or an earlier outcome is unknown\n";
+
+/// What is told of a name in the log that is none of a record, with a log and without.
+const ODD: &[u8] =
+    b"log/x: open: isn't a file of a tree: the files can't be used, or an earlier outcome is unknown\n";
+
+const REFUSED: &[u8] = b"error 4 Unrecoverable\n";
 
 /// A folder with a record that counts is opened with a log alone. Once a flush has passed the record, it is opened without. What
 /// is damaged of a log is told, and none of it is removed.
@@ -19,11 +34,10 @@ fn records_in_a_folder_are_spared(rt: HostRuntime) -> Result<(), Fail> {
     let _ = fs::remove_dir_all(&rt, folder);
     let plain = arguments_of(alloc, folder)?;
     let logged = arguments_of(alloc, "logged lsm_shell_logged")?;
-    let refused = (b"error 4 Unrecoverable\n".as_slice(), HAS_LOG, 1);
     let flushed = b"value x\nflushed 50 installed\nvalue x\n".as_slice();
     let table: [(&[String], &[u8], (&[u8], &[u8], u8)); 4] = [
         (&logged, b"put a x\n", (b"ok 0\n", b"", 0)),
-        (&plain, b"put a y\nflush 9\n", refused),
+        (&plain, b"put a y\nflush 9\n", (REFUSED, HAS_0, 1)),
         (&logged, b"get a\nflush 0\nget a\n", (flushed, b"", 0)),
         (&plain, b"get a\n", (b"value x\n", b"", 0)),
     ];
@@ -35,9 +49,13 @@ fn records_in_a_folder_are_spared(rt: HostRuntime) -> Result<(), Fail> {
     }
     fs::create_dir_all(&rt, "lsm_shell_logged/log")?;
     fs::write(&rt, "lsm_shell_logged/log/7", b"x")?;
-    let damaged = (refused.0, BAD_LOG, 1);
-    assert!(rt; ends(&rt, alloc, Some(&logged), b"get a\n".as_slice(), damaged));
-    assert!(rt; ends(&rt, alloc, Some(&plain), b"get a\n".as_slice(), refused));
+    let input = b"get a\n".as_slice();
+    assert!(rt; ends(&rt, alloc, Some(&logged), input, (REFUSED, BAD_7, 1)));
+    assert!(rt; ends(&rt, alloc, Some(&plain), input, (REFUSED, HAS_7, 1)));
+    fs::rename(&rt, "lsm_shell_logged/log/7", "lsm_shell_logged/log/x")?;
+    for arguments in [&logged, &plain] {
+        assert!(rt; ends(&rt, alloc, Some(arguments), input, (REFUSED, ODD, 1)));
+    }
     fs::remove_dir_all(&rt, folder)?;
     Ok(())
 }
@@ -72,7 +90,7 @@ fn a_folder_with_records_is_not_reopened(rt: HostRuntime) -> Result<(), Fail> {
     let arguments = arguments_of(alloc, folder)?;
     let told = (
         b"ok 0\nerror 4 Unrecoverable\nerror 0 Usage\n".as_slice(),
-        HAS_LOG,
+        HAS_5,
         0,
     );
     let input = Dropping { rt: &rt, turn: 0 };

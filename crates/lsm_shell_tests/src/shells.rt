@@ -117,19 +117,6 @@ fn answers_long_lines(rt: HostRuntime) -> Result<(), Fail> {
     Ok(())
 }
 
-/// The levels as they are drawn: none, and a table of one key, whose file has 37 bytes.
-#[test]
-fn draws_levels(rt: HostRuntime) -> Result<(), Fail> {
-    let alloc = rt.alloc();
-    let mut told = Vec::from_slice(alloc, b"no tables\nok 0\nflushed 50 installed\nL0   0 ||")?;
-    for _ in 1..72 {
-        told.push(b' ')?;
-    }
-    told.extend_from_slice(b"| 1 tables, 37 bytes\nkeys    \"a\" .. \"a\"\n")?;
-    assert!(rt; prints(&rt, alloc, b"levels\nput a x\nflush 0\nlevels\n", &told));
-    Ok(())
-}
-
 /// The arguments between single spaces, none for an empty text.
 pub fn arguments_of(alloc: Global, text: &str) -> Result<Vec<String>, AllocError> {
     let mut words = Vec::new(alloc);
@@ -144,18 +131,16 @@ pub fn arguments_of(alloc: Global, text: &str) -> Result<Vec<String>, AllocError
 /// What is told of arguments that ask nothing.
 const USAGE: (&[u8], &[u8], u8) = (
     b"",
-    b"usage: lsm_shell [--quiet] [FOLDER | logged [FOLDER] | threads N]\n",
+    b"usage: lsm_shell [FOLDER | logged [FOLDER] | threads N]\n",
     2,
 );
 
 #[test]
 fn takes_arguments(rt: HostRuntime) -> Result<(), Fail> {
-    let table: [(&str, (&[u8], &[u8], u8)); 17] = [
+    let table: [(&str, (&[u8], &[u8], u8)); 15] = [
         ("logged", (b"ok 0\nvalue x\n", b"", 0)),
-        ("--quiet", (b"ok 0\nvalue x\n", b"", 0)),
-        ("--quiet logged", (b"ok 0\nvalue x\n", b"", 0)),
-        ("--quiet threads 0", USAGE),
-        ("logged --quiet b", USAGE),
+        ("--quiet logged", USAGE),
+        ("--quiet threads 1", USAGE),
         ("logged a b", USAGE),
         ("threads logged", USAGE),
         ("threads 1", (b"threads 1 entries 20 all equal\n", b"", 0)),

@@ -1,7 +1,8 @@
 // How far long work is, as it is told to whoever waits for it.
 use crate::folders::filled;
+use crate::shells::arguments_of;
 use lsm_shell_parts::{Console, Watch, run_shell};
-use std::alloc::{AllocError, Global};
+use std::alloc::Global;
 use std::cell::Cell;
 use std::fs::{self, File, Files};
 use std::io::{self, Write};
@@ -71,24 +72,13 @@ where
     status == 0 && told.get() == mixed(0, text)
 }
 
-/// The folder, after `--quiet` or not.
-fn arguments(alloc: Global, is_quiet: bool) -> Result<Vec<String>, AllocError> {
-    let mut words = Vec::new(alloc);
-    if is_quiet {
-        words.push(String::from_str(alloc, "--quiet")?)?;
-    }
-    words.push(String::from_str(alloc, FOLDER)?)?;
-    Ok(words)
-}
-
 #[test]
 fn long_work_shows_itself(rt: HostRuntime) -> Result<(), Fail> {
     let alloc = rt.alloc();
     drop(filled(&rt, alloc, FOLDER)?);
-    let shown = tells(&rt, alloc, &arguments(alloc, false)?, TOLD);
-    drop(filled(&rt, alloc, FOLDER)?);
-    let is_quiet = tells(&rt, alloc, &arguments(alloc, true)?, b"");
+    let arguments = arguments_of(alloc, FOLDER)?;
+    let shown = tells(&rt, alloc, &arguments, TOLD);
     fs::remove_dir_all(&rt, FOLDER)?;
-    assert!(rt; shown && is_quiet);
+    assert!(rt; shown);
     Ok(())
 }

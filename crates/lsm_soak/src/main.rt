@@ -38,8 +38,8 @@ type Soaked = Tree<FolderStore<HostRuntime>>;
 
 fn open_folder(rt: &HostRuntime, folder: &str) -> Result<TreeState<FolderStore<HostRuntime>>> {
     let store = FolderStore::new(rt, rt.alloc(), folder)?;
-    let opened = TreeState::open_raised(rt.alloc(), Config::new(0, 0, 0), store);
-    Ok(opened.map_err(|refused| refused.0)?)
+    let opened = TreeState::open_unlogged(rt.alloc(), Config::new(0, 0, 0), store);
+    Ok(opened.map_err(|(error, store)| store.explain(error))?)
 }
 
 /// A caller's number, and the file that it notes its calls in.
