@@ -68,7 +68,7 @@ fn write_bytes<W: Write>(alloc: Global, out: &mut W, bytes: &[u8]) -> io::Result
 }
 
 /// What a file holds, or what is wrong with it: a store that doesn't give it is no error.
-fn content_of<T>(
+fn content_of<T: Drop>(
     alloc: Global,
     read: Result<ReadFile<T>, Error>,
 ) -> Result<(Option<Sum>, Result<T, String>), Error> {

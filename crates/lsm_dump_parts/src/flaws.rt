@@ -2,6 +2,7 @@
 use std::alloc::{AllocError, Global};
 
 /// What a file is made of in which items follow a front.
+#[derive(Clone, Copy)]
 pub(crate) struct Form {
     letters: &'static str,
     /// The bytes of the front, which ends with how many items follow.
@@ -35,6 +36,7 @@ pub(crate) const RECORD: Form = Form {
 const COUNT_AT: usize = 12;
 
 /// What is wrong with an item.
+#[derive(Clone, Copy)]
 enum Broken {
     /// The file ends so many bytes before the item does.
     Lacks(usize),

@@ -4,7 +4,7 @@ use crate::lines::Lines;
 use bytes::Bytes;
 use hex::FromHexError;
 use lsm_tree::{MAX_KEY_LEN, MAX_VALUE_LEN, UserKey, UserValue};
-use std::alloc::Global;
+use std::alloc::{AllocError, Global};
 use std::collections::BTreeMap;
 use std::io::{BufRead, BufReader, Read};
 
@@ -80,7 +80,7 @@ fn read_bytes<R: BufRead + Drop>(
     match hex::decode(alloc, digits) {
         Ok(bytes) if bytes.len() > most => Err(lines.refuse(LineFault::TooLong)),
         Ok(bytes) => Ok(Bytes::from_vec(bytes)?),
-        Err(FromHexError::OutOfMemory) => Err(LoadError::Memory(std::alloc::AllocError)),
+        Err(FromHexError::OutOfMemory) => Err(LoadError::Memory(AllocError)),
         Err(FromHexError::OddLength) => Err(lines.refuse(LineFault::OddDigits)),
         Err(_) => Err(lines.refuse(LineFault::NoDigit)),
     }
