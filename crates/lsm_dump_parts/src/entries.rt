@@ -78,7 +78,10 @@ pub(crate) enum Listing {
         #[serde(skip_serializing_if = "Option::is_none")]
         fault: Option<String>,
     },
-    Record { record: SeqNo, writes: Vec<Row> },
+    Record {
+        record: SeqNo,
+        writes: Vec<Row>,
+    },
 }
 
 impl Listing {

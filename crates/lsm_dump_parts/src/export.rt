@@ -186,6 +186,11 @@ pub fn export_pairs<S: Store>(alloc: Global, store: &mut S) -> Result<Export, Er
     let from = first_in_log(&named, after_all(&out.writes));
     let numbers = numbers_among(alloc, &names)?;
     let below = numbers.partition_point(|number| *number < from);
-    export_records(alloc, store, &mut out, numbers.get(below..).unwrap_or_default())?;
+    export_records(
+        alloc,
+        store,
+        &mut out,
+        numbers.get(below..).unwrap_or_default(),
+    )?;
     Ok(out)
 }

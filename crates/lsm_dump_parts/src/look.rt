@@ -25,8 +25,8 @@ use std::alloc::{AllocError, Global};
 pub use tables::{Entries, Key, TableLook};
 use tables::{look_at_tables, put_runs_damage, put_tables_damage};
 pub use version::Place;
-pub(crate) use version::{Named, Wanted, find_tables, other_sum, sum_fault};
 use version::look_at_version;
+pub(crate) use version::{Named, Wanted, find_tables, other_sum, sum_fault};
 
 /// A file that is damaged, and one thing that is wrong with it.
 #[derive(Drop, Serialize)]

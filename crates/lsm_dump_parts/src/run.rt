@@ -74,7 +74,9 @@ fn show_listing(
     listing: Result<Listing, String>,
     is_json: bool,
 ) -> Result<Shown, Error> {
-    let is_good = listing.as_ref().is_ok_and(|listing| listing.fault().is_none());
+    let is_good = listing
+        .as_ref()
+        .is_ok_and(|listing| listing.fault().is_none());
     let text = match listing {
         Ok(listing) if is_json => object_text(alloc, &listing)?,
         Ok(listing) => {
@@ -210,13 +212,7 @@ fn print_export<W: Write, E: Write>(
     }
 }
 
-fn export_folder<P, W, E>(
-    rt: &P,
-    alloc: Global,
-    folder: &str,
-    output: &mut W,
-    errors: &mut E,
-) -> u8
+fn export_folder<P, W, E>(rt: &P, alloc: Global, folder: &str, output: &mut W, errors: &mut E) -> u8
 where
     P: Files<File = File> + Alloc + Clone + Drop,
     W: Write,

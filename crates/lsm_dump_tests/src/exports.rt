@@ -76,7 +76,11 @@ fn what_can_be_read_is_exported(rt: HostRuntime) -> Result<(), Fail> {
         let mut store = store_of(alloc, &files, name, Change::Holds(bytes))?;
         let export = export_pairs(alloc, &mut store)?;
         let lines = lines_of(alloc, pairs)?;
-        assert_eq!(rt; text_of(alloc, &export)?.as_slice(), lines.as_bytes(), "{name}");
+        assert_eq!(rt;
+            text_of(alloc, &export)?.as_slice(),
+            lines.as_bytes(),
+            "{name}"
+        );
         assert_eq!(rt; left_out(alloc, &export)?.as_str(), left, "{name}");
     }
     Ok(())

@@ -66,7 +66,11 @@ fn pairs_are_refused(rt: HostRuntime) -> Result<(), Fail> {
     ];
     for (pairs, number, fault) in rows {
         let text = format!(in alloc; "{HEADER}{pairs}")?;
-        assert_eq!(rt; refused_for(alloc, text.as_str())?, Some((number, fault)), "{pairs}");
+        assert_eq!(rt;
+            refused_for(alloc, text.as_str())?,
+            Some((number, fault)),
+            "{pairs}"
+        );
     }
     Ok(())
 }
@@ -87,7 +91,10 @@ fn long_keys_are_refused(rt: HostRuntime) -> Result<(), Fail> {
     let longest = export_of_zeros(alloc, 65_535)?;
     assert_eq!(rt; refused_for(alloc, longest.as_str())?, None);
     let longer = export_of_zeros(alloc, 65_536)?;
-    assert_eq!(rt; refused_for(alloc, longer.as_str())?, Some((5, LineFault::TooLong)));
+    assert_eq!(rt;
+        refused_for(alloc, longer.as_str())?,
+        Some((5, LineFault::TooLong))
+    );
     Ok(())
 }
 
@@ -105,7 +112,14 @@ fn load<R: Files<File = File> + Alloc + Clone + Drop>(
         list.push(String::from_str(alloc, word)?)?;
     }
     let (mut output, mut errors) = (Vec::new(alloc), Vec::new(alloc));
-    let status = run_load(rt, alloc, Some(&list), text.as_bytes(), &mut output, &mut errors);
+    let status = run_load(
+        rt,
+        alloc,
+        Some(&list),
+        text.as_bytes(),
+        &mut output,
+        &mut errors,
+    );
     Ok((status, output, errors))
 }
 

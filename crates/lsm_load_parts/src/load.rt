@@ -1,9 +1,7 @@
 // Pairs written into a tree with a log.
 use crate::error::LoadError;
 use crate::export::Pairs;
-use lsm_tree::{
-    Config, Error, FolderCall, FolderFault, FolderStore, Logged, Op, Store, UserKey,
-};
+use lsm_tree::{Config, Error, FolderCall, FolderFault, FolderStore, Logged, Op, Store, UserKey};
 use std::alloc::Global;
 use std::fs::{self, File, Files};
 use std::io::ErrorKind;
@@ -75,11 +73,7 @@ where
     }
 }
 
-fn open_new<P>(
-    rt: &P,
-    alloc: Global,
-    folder: &str,
-) -> Result<Logged<FolderStore<P>>, LoadError>
+fn open_new<P>(rt: &P, alloc: Global, folder: &str) -> Result<Logged<FolderStore<P>>, LoadError>
 where
     P: Files<File = File> + Alloc + Clone + Drop,
 {
@@ -97,12 +91,7 @@ where
 ///
 /// `NotNew` where there is something in the folder, `Folder` and `Tree` where no tree can be made there, and `Part` where a write or a
 /// flush failed: then the folder holds the first batches alone.
-pub fn load_folder<P>(
-    rt: &P,
-    alloc: Global,
-    folder: &str,
-    pairs: Pairs,
-) -> Result<(), LoadError>
+pub fn load_folder<P>(rt: &P, alloc: Global, folder: &str, pairs: Pairs) -> Result<(), LoadError>
 where
     P: Files<File = File> + Alloc + Clone + Drop,
 {

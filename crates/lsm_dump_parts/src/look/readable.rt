@@ -26,9 +26,11 @@ fn place_of<S: Store>(alloc: Global, store: &mut S, id: TableId) -> Result<Optio
     let names = names_of(alloc, store)?;
     let named = look_at_version(alloc, store, &names)?;
     let mut tables = named.tables.iter();
-    Ok(tables
-        .find(|table| table.id == id)
-        .and_then(|table| table.place))
+    Ok(
+        tables
+            .find(|table| table.id == id)
+            .and_then(|table| table.place),
+    )
 }
 
 /// What is wrong with a table whose file has this sum.
