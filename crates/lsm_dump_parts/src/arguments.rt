@@ -46,13 +46,21 @@ pub enum View {
     Record(SeqNo),
 }
 
-/// What is asked of a folder.
+/// What of a folder is shown, and how.
 #[derive(Clone, Copy, Debug, PartialEq, Eq)]
 pub struct Plan<'a> {
     pub folder: &'a str,
     pub view: View,
     pub is_json: bool,
     pub slice: Slice<'a>,
+}
+
+/// What is asked of a folder.
+#[derive(Clone, Copy, Debug, PartialEq, Eq)]
+pub enum Task<'a> {
+    Show(Plan<'a>),
+    /// Write the pairs of this folder as lines that `mdb_load` reads.
+    Export(&'a str),
 }
 
 /// What goes with an option.
@@ -62,14 +70,16 @@ enum Company {
     View,
     /// It stands beside `--table`.
     Table,
-    /// It stands beside all but `--levels`.
-    NoLevels,
+    /// It chooses what is shown, and no object is made of it.
+    Lines,
+    /// It stands beside all that an object can be made of.
+    Object,
 }
 
 /// An option: its name, what stands for its value where one follows it, what goes with it, and its help.
 type Row = (&'static str, Option<&'static str>, Company, &'static str);
 
-const OPTIONS: [Row; 8] = [
+const OPTIONS: [Row; 9] = [
     (
         "check",
         None,
@@ -94,17 +104,24 @@ const OPTIONS: [Row; 8] = [
     (
         "levels",
         None,
-        Company::View,
+        Company::Lines,
         "the levels, drawn with characters",
     ),
-    ("json", None, Company::NoLevels, "one JSON object"),
+    (
+        "export",
+        None,
+        Company::Lines,
+        "all pairs, as lines that mdb_load and lsm_load read; what can't be read is named on standard error",
+    ),
+    ("json", None, Company::Object, "one JSON object"),
 ];
 
 /// What stands below the options on the page of `--help`.
 const STATUSES: &str = "\
 Status:
   0  all was shown; with --check the tree would be opened
-  1  a fault of the folder or the output; no such table or record, or a damaged one; with --check the tree would be refused
+  1  a fault of the folder or the output; no such table or record, or a damaged one; with --check the tree would be refused;
+     with --export something was left out
   2  other arguments than these";
 
 fn option_of<'a>(alloc: Global, row: &Row) -> Result<Arg<'a>, AllocError> {
@@ -118,7 +135,8 @@ fn option_of<'a>(alloc: Global, row: &Row) -> Result<Arg<'a>, AllocError> {
     match company {
         Company::View => arg.group("view"),
         Company::Table => arg.requires_arg("table"),
-        Company::NoLevels => arg.conflicts_with("levels"),
+        Company::Lines => arg.group("view")?.conflicts_with("json"),
+        Company::Object => Ok(arg),
     }
 }
 
@@ -155,10 +173,14 @@ fn view_of(matches: &ArgMatches<'_>) -> View {
 }
 
 /// What these arguments ask; the help that they ask for is an error too.
-pub fn parse_arguments<'a>(alloc: Global, words: &'a [String]) -> Result<Plan<'a>, Error> {
+pub fn parse_arguments<'a>(alloc: Global, words: &'a [String]) -> Result<Task<'a>, Error> {
     let matches = command(alloc)?.try_get_matches_from(words)?;
-    Ok(Plan {
-        folder: matches.get_str("FOLDER").unwrap_or_default(),
+    let folder = matches.get_str("FOLDER").unwrap_or_default();
+    if matches.get_flag("export") {
+        return Ok(Task::Export(folder));
+    }
+    Ok(Task::Show(Plan {
+        folder,
         view: view_of(&matches),
         is_json: matches.get_flag("json"),
         slice: Slice {
@@ -166,5 +188,5 @@ pub fn parse_arguments<'a>(alloc: Global, words: &'a [String]) -> Result<Plan<'a
             to: matches.get_str("to"),
             limit: matches.get_one::<u64>("limit"),
         },
-    })
+    }))
 }

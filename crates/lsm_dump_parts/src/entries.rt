@@ -71,8 +71,27 @@ pub(crate) struct Row {
 #[derive(Drop, Serialize)]
 #[serde(untagged)]
 pub(crate) enum Listing {
-    Table { table: TableId, entries: Vec<Row> },
-    Record { record: SeqNo, writes: Vec<Row> },
+    Table {
+        table: TableId,
+        entries: Vec<Row>,
+        /// What is wrong with its file, of which these entries were read all the same.
+        #[serde(skip_serializing_if = "Option::is_none")]
+        fault: Option<String>,
+    },
+    Record {
+        record: SeqNo,
+        writes: Vec<Row>,
+    },
+}
+
+impl Listing {
+    /// What is wrong with the file that is listed.
+    pub(crate) fn fault(&self) -> Option<&str> {
+        match self {
+            Listing::Table { fault, .. } => fault.as_ref().map(|fault| fault.as_str()),
+            Listing::Record { .. } => None,
+        }
+    }
 }
 
 fn entry_row(alloc: Global, entry: &InternalValue) -> Result<Row, AllocError> {
@@ -92,10 +111,11 @@ fn entry_row(alloc: Global, entry: &InternalValue) -> Result<Row, AllocError> {
     })
 }
 
-/// The entries of a table in the bounds.
+/// The entries of a table in the bounds, and what is wrong with its file.
 pub(crate) fn list_table(
     alloc: Global,
     table: &Table,
+    fault: Option<String>,
     bounds: &Bounds,
 ) -> Result<Listing, AllocError> {
     let entries = table.range(&bounds.from, &bounds.to).iter();
@@ -106,6 +126,7 @@ pub(crate) fn list_table(
     Ok(Listing::Table {
         table: table.id(),
         entries: rows,
+        fault,
     })
 }
 

@@ -1,7 +1,8 @@
-// Where the file of a table or of a record breaks off, or is of another form.
+// Where the file of a table or of a record breaks off, or is of another form, and what of a table stands before that.
 use std::alloc::{AllocError, Global};
 
 /// What a file is made of in which items follow a front.
+#[derive(Clone, Copy)]
 pub(crate) struct Form {
     letters: &'static str,
     /// The bytes of the front, which ends with how many items follow.
@@ -35,6 +36,7 @@ pub(crate) const RECORD: Form = Form {
 const COUNT_AT: usize = 12;
 
 /// What is wrong with an item.
+#[derive(Clone, Copy)]
 enum Broken {
     /// The file ends so many bytes before the item does.
     Lacks(usize),
@@ -69,6 +71,48 @@ fn skip_item(bytes: &[u8], gap: usize) -> Result<&[u8], Broken> {
         Some(code) if *code > 2 || (*code > 0 && value > 0) => Err(Broken::Type(*code)),
         _ => Ok(behind),
     }
+}
+
+/// Whether an entry may stand behind another one: its key is greater, or the same and its number less.
+fn is_behind(entry: &[u8], before: &[u8]) -> bool {
+    let (key, other) = (entry_key(entry), entry_key(before));
+    key > other || (key == other && little(entry, 2, 10) < little(before, 2, 10))
+}
+
+/// The key of the entry at the head of these bytes, which is whole.
+fn entry_key(bytes: &[u8]) -> &[u8] {
+    let head = TABLE.gap.saturating_add(7);
+    let len = little(bytes, 0, 2) as usize;
+    bytes
+        .get(head..head.saturating_add(len))
+        .unwrap_or_default()
+}
+
+/// The file of a table with the entries alone that stand before the first one that is cut, of no type or out of order. None
+/// where there are none.
+pub(crate) fn sound_front(alloc: Global, bytes: &[u8]) -> Result<Option<Vec<u8>>, AllocError> {
+    let mut rest = bytes.get(TABLE.front..).unwrap_or_default();
+    let mut before: Option<&[u8]> = None;
+    let mut count: u64 = 0;
+    for _ in 0..little(bytes, COUNT_AT, TABLE.front) {
+        let Ok(behind) = skip_item(rest, TABLE.gap) else {
+            break;
+        };
+        if before.is_some_and(|before| !is_behind(rest, before)) {
+            break;
+        }
+        before = Some(rest);
+        rest = behind;
+        count = count.saturating_add(1);
+    }
+    if count == 0 {
+        return Ok(None);
+    }
+    let end = bytes.len().saturating_sub(rest.len());
+    let mut front = Vec::from_slice(alloc, bytes.get(..COUNT_AT).unwrap_or_default())?;
+    front.extend_from_slice(&count.to_le_bytes())?;
+    front.extend_from_slice(bytes.get(TABLE.front..end).unwrap_or_default())?;
+    Ok(Some(front))
 }
 
 /// What is wrong with the items, or behind them.

@@ -21,14 +21,14 @@ pub struct FolderView<R: Files<File = File> + Alloc + Clone + Drop> {
     last_fault: Option<FolderFault>,
 }
 
-/// The names of the files of a folder and its subfolders, which may be absent.
+/// The names of the files of a folder and its subfolders, which may be absent. Those of the subfolders come first, as where a
+/// folder is taken as a tree's.
 fn list_folder<R: Files + Alloc + Clone + Drop>(
     rt: &R,
     alloc: Global,
     root: &str,
 ) -> io::Result<Vec<String>> {
     let mut names = Vec::new(alloc);
-    list_files(rt, alloc, root, "", &mut names)?;
     for folder in SUBFOLDERS {
         let path = path_below(alloc, root, folder)?;
         let prefix = path_below(alloc, folder, "")?;
@@ -38,6 +38,7 @@ fn list_folder<R: Files + Alloc + Clone + Drop>(
             Err(error) => return Err(error),
         }
     }
+    list_files(rt, alloc, root, "", &mut names)?;
     Ok(names)
 }
 

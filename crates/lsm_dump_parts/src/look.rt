@@ -2,6 +2,7 @@
 ghost use Rattle.lsm_store.specs.World.{Same};
 
 mod others;
+mod readable;
 mod reading;
 mod records;
 mod tables;
@@ -12,17 +13,20 @@ use lsm_below::{Error, SeqNo};
 use lsm_manifest::version_name;
 use lsm_store::Store;
 use lsm_versions::VersionId;
+pub(crate) use others::folder_faults;
 use others::sort_names;
-use reading::names_of;
-pub(crate) use reading::{read_record, read_table};
+pub(crate) use readable::{Readable, find_readable};
+pub(crate) use reading::{ReadFile, names_of, read_record, read_table};
+pub(crate) use records::numbers_among;
 pub use records::{RecordLook, Writes};
-use records::{look_at_records, numbers_among, put_records_damage};
+use records::{look_at_records, put_records_damage};
 use serde::Serialize;
 use std::alloc::{AllocError, Global};
 pub use tables::{Entries, Key, TableLook};
 use tables::{look_at_tables, put_runs_damage, put_tables_damage};
 pub use version::Place;
-use version::{Named, look_at_version};
+use version::look_at_version;
+pub(crate) use version::{Named, Wanted, find_tables, other_sum, sum_fault};
 
 /// A file that is damaged, and one thing that is wrong with it.
 #[derive(Drop, Serialize)]
@@ -79,11 +83,12 @@ fn after_all(tables: &[TableLook]) -> SeqNo {
     after
 }
 
-/// From which number a log is read. Where no version tells which tables count, from the first one.
-fn log_from(named: &Named, tables: &[TableLook]) -> SeqNo {
+/// From which number a log is read: where the version's file doesn't tell it, from the one after all that its tables hold. Where
+/// no version tells which tables count, from the first one.
+pub(crate) fn first_in_log(named: &Named, after: SeqNo) -> SeqNo {
     match (named.log_from, named.id) {
         (Some(number), _) => number,
-        (None, Some(_)) => after_all(tables),
+        (None, Some(_)) => after,
         (None, None) => 0,
     }
 }
@@ -130,7 +135,7 @@ fn look_behind<S: Store>(
     ensures { S.tells → Same (S.world store.old) (S.world store.new) }
 {
     let tables = look_at_tables(alloc, store, &named.tables)?;
-    let log_from = log_from(&named, &tables);
+    let log_from = first_in_log(&named, after_all(&tables));
     let (passed, records) = look_at_log(alloc, store, names, log_from)?;
     let mut others = sort_names(alloc, names, &named)?;
     others.damage.append(&mut named.damage)?;

@@ -1,17 +1,18 @@
 // The run of the program.
-use crate::arguments::{Plan, View, parse_arguments};
+use crate::arguments::{Plan, Task, View, parse_arguments};
+use crate::check::{push_verdict, verdict_of};
 use crate::entries::{Bounds, Listing, bounds_of, list_record, list_table, push_listing};
+use crate::export::{Export, export_pairs};
 use crate::folder::FolderView;
 use crate::levels::push_levels;
-use crate::look::{Damage, Look, look_into, read_record, read_table};
-use crate::text::{push_damage, push_look};
-use crate::verdict::judge;
-use lsm_below::Error;
+use crate::look::{Look, Readable, find_readable, look_into, read_record};
+use crate::text::push_look;
+use lsm_below::{Error, TableId};
 use lsm_log::record_name;
 use lsm_manifest::table_name;
 use lsm_store::Store;
 use serde::Serialize;
-use std::alloc::{AllocError, Global};
+use std::alloc::Global;
 use std::fs::{File, Files};
 use std::io::Write;
 
@@ -26,17 +27,6 @@ const USAGE: u8 = 2;
 pub struct Shown {
     pub text: String,
     pub is_good: bool,
-}
-
-/// Whether a tree would be opened, the number and the name of the error that refuses it, and what is wrong.
-#[derive(Drop, Serialize)]
-struct Verdict {
-    opens: bool,
-    #[serde(skip_serializing_if = "Option::is_none")]
-    error: Option<u8>,
-    #[serde(skip_serializing_if = "Option::is_none")]
-    name: Option<&'static str>,
-    faults: Vec<Damage>,
 }
 
 /// A line of one object.
@@ -61,35 +51,7 @@ fn look_text(alloc: Global, found: &Look, plan: &Plan<'_>) -> Result<String, Err
     Ok(text)
 }
 
-/// The verdict on a store. Files are read again only where it wouldn't be opened.
-fn verdict_of<S: Store>(alloc: Global, store: &mut S) -> Result<Verdict, Error> {
-    match judge(alloc, store) {
-        Ok(()) => Ok(Verdict {
-            opens: true,
-            error: None,
-            name: None,
-            faults: Vec::new(alloc),
-        }),
-        Err(Error::OutOfMemory) => Err(Error::OutOfMemory),
-        Err(Error::Store) => Err(Error::Store),
-        Err(error) => Ok(Verdict {
-            opens: false,
-            error: Some(error.number()),
-            name: Some(error.name()),
-            faults: look_into(alloc, store)?.faults,
-        }),
-    }
-}
-
-/// Appends what is wrong, and what opening would answer.
-fn push_verdict(out: &mut String, verdict: &Verdict) -> Result<(), AllocError> {
-    push_damage(out, &verdict.faults)?;
-    match (verdict.error, verdict.name) {
-        (Some(number), Some(name)) => write!(out, "refused: error {number} {name}\n"),
-        _ => out.push_str("opens\n"),
-    }
-}
-
+/// What is wrong with a folder, and whether it would be opened.
 fn check<S: Store>(alloc: Global, store: &mut S, is_json: bool) -> Result<Shown, Error> {
     let verdict = verdict_of(alloc, store)?;
     let text = if is_json {
@@ -112,17 +74,38 @@ fn show_listing(
     listing: Result<Listing, String>,
     is_json: bool,
 ) -> Result<Shown, Error> {
-    let is_good = listing.is_ok();
+    let is_good = listing
+        .as_ref()
+        .is_ok_and(|listing| listing.fault().is_none());
     let text = match listing {
         Ok(listing) if is_json => object_text(alloc, &listing)?,
         Ok(listing) => {
             let mut text = String::new(alloc);
             push_listing(&mut text, &listing)?;
+            if let Some(fault) = listing.fault() {
+                write!(text, "{name}: {fault}\n")?;
+            }
             text
         }
         Err(fault) => format!(in alloc; "{name}: {fault}\n")?,
     };
     Ok(Shown { text, is_good })
+}
+
+/// The entries of a table, and what is wrong with its file: of a damaged one what can be read.
+fn show_table<S: Store>(
+    alloc: Global,
+    store: &mut S,
+    id: TableId,
+    plan: &Plan<'_>,
+    bounds: &Bounds,
+) -> Result<Shown, Error> {
+    let Readable { table, fault } = find_readable(alloc, store, id)?;
+    let listing = match (table, fault) {
+        (Some(table), fault) => Ok(list_table(alloc, &table, fault, bounds)?),
+        (None, fault) => Err(fault.unwrap_or(String::new(alloc))),
+    };
+    show_listing(alloc, table_name(id).as_str(), listing, plan.is_json)
 }
 
 /// What a plan shows of a store. Nothing of the store is changed.
@@ -138,13 +121,7 @@ pub fn show<S: Store>(
 ) -> Result<Shown, Error> {
     match plan.view {
         View::Check => check(alloc, store, plan.is_json),
-        View::Table(id) => {
-            let listing = match read_table(alloc, store, id)?.content {
-                Ok(table) => Ok(list_table(alloc, &table, bounds)?),
-                Err(fault) => Err(fault),
-            };
-            show_listing(alloc, table_name(id).as_str(), listing, plan.is_json)
-        }
+        View::Table(id) => show_table(alloc, store, id, plan, bounds),
         View::Record(number) => {
             let listing = match read_record(alloc, store, number)?.content {
                 Ok(record) => Ok(list_record(alloc, &record)?),
@@ -214,8 +191,44 @@ where
     }
 }
 
+/// Writes the lines of an export, and names what is left out.
+fn print_export<W: Write, E: Write>(
+    alloc: Global,
+    export: &Export,
+    output: &mut W,
+    errors: &mut E,
+) -> u8 {
+    if export.write_to(alloc, output).is_err() {
+        return FAULT;
+    }
+    for damage in &export.left_out {
+        let (file, fault) = (&damage.file, &damage.fault);
+        let _ = write!(errors, "left out: {file}: {fault}\n");
+    }
+    if export.left_out.is_empty() {
+        SUCCESS
+    } else {
+        FAULT
+    }
+}
+
+fn export_folder<P, W, E>(rt: &P, alloc: Global, folder: &str, output: &mut W, errors: &mut E) -> u8
+where
+    P: Files<File = File> + Alloc + Clone + Drop,
+    W: Write,
+    E: Write,
+{
+    let Ok(mut store) = FolderView::new(rt, alloc, folder) else {
+        return FAULT;
+    };
+    match export_pairs(alloc, &mut store) {
+        Ok(export) => print_export(alloc, &export, output, errors),
+        Err(error) => tell_fault(errors, &store, &error),
+    }
+}
+
 /// Does what the arguments ask, and gives the status to end with: 0, 1 after a fault of the folder or of the output, or where
-/// what was asked for is damaged, and 2 where they ask nothing. `arguments` is None where one of them is no text.
+/// what was asked for is damaged or left out, and 2 where they ask nothing. `arguments` is None where one of them is no text.
 pub fn run_dump<P, W, E>(
     rt: &P,
     alloc: Global,
@@ -232,7 +245,8 @@ where
         return tell_usage(errors, "an argument is no text");
     };
     match parse_arguments(alloc, words) {
-        Ok(plan) => show_folder(rt, alloc, &plan, output, errors),
+        Ok(Task::Show(plan)) => show_folder(rt, alloc, &plan, output, errors),
+        Ok(Task::Export(folder)) => export_folder(rt, alloc, folder, output, errors),
         Err(told) if told.use_stderr() => {
             let _ = write!(errors, "{told}");
             USAGE

@@ -55,6 +55,7 @@ fn a_folder_is_read(rt: HostRuntime) -> Result<(), Fail> {
     assert_eq!(rt; ends(&rt, alloc, &[FOLDER])?, (0, false, true));
     assert_eq!(rt; ends(&rt, alloc, &[FOLDER, "--check"])?, (0, false, true));
     assert_eq!(rt; ends(&rt, alloc, &["--json", FOLDER])?, (0, false, true));
+    assert_eq!(rt; ends(&rt, alloc, &[FOLDER, "--export"])?, (0, false, true));
     assert_eq!(rt;
         ends(&rt, alloc, &[FOLDER, "--table", "9"])?,
         (1, false, true)
@@ -64,9 +65,22 @@ fn a_folder_is_read(rt: HostRuntime) -> Result<(), Fail> {
 }
 
 #[test]
+fn what_is_left_out_is_told(rt: HostRuntime) -> Result<(), Fail> {
+    let alloc = rt.alloc();
+    fill(&rt, alloc)?;
+    fs::write(&rt, "lsm_dump_test/tables/3", b"1")?;
+    assert_eq!(rt; ends(&rt, alloc, &[FOLDER, "--export"])?, (1, false, false));
+    assert_eq!(rt; ends(&rt, alloc, &[FOLDER, "--check"])?, (1, false, true));
+    fs::remove_file(&rt, "lsm_dump_test/current")?;
+    assert_eq!(rt; ends(&rt, alloc, &[FOLDER, "--export"])?, (1, false, false));
+    assert_eq!(rt; ends(&rt, alloc, &[FOLDER, "--check"])?, (1, false, true));
+    Ok(())
+}
+
+#[test]
 fn arguments_are_refused(rt: HostRuntime) -> Result<(), Fail> {
     let alloc = rt.alloc();
-    let rows: [(&[&str], u8); 12] = [
+    let rows: [(&[&str], u8); 14] = [
         (&["--help"], 0),
         (&[], 2),
         (&["a", "b"], 2),
@@ -76,6 +90,8 @@ fn arguments_are_refused(rt: HostRuntime) -> Result<(), Fail> {
         (&["a", "--table", "1", "--record", "1"], 2),
         (&["a", "--from", "k"], 2),
         (&["a", "--levels", "--json"], 2),
+        (&["a", "--export", "--json"], 2),
+        (&["a", "--export", "--check"], 2),
         (&["a", "--table", "1", "--from", "0x0"], 2),
         (&[""], 2),
         (&["lsm_dump_absent"], 1),

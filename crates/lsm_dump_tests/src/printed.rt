@@ -157,3 +157,79 @@ fn what_is_wrong_is_told(rt: HostRuntime) -> Result<(), Fail> {
     }
     Ok(())
 }
+
+#[test]
+fn folders_that_are_no_trees_are_told(rt: HostRuntime) -> Result<(), Fail> {
+    let alloc = rt.alloc();
+    let rows: [(&str, &str); 6] = [
+        (
+            "video.mp4",
+            "video.mp4: begins as the versions of a tree do, which opening removes: move it away\n",
+        ),
+        (
+            "v007",
+            "v007: begins as the versions of a tree do, which opening removes: move it away\n",
+        ),
+        (
+            "v7",
+            "current: is missing beside v7: put it back from a copy\n",
+        ),
+        (
+            "tables/3",
+            "current: is missing beside tables/3: put it back from a copy\n",
+        ),
+        (
+            "log/1",
+            "current: is missing beside log/1: put it back from a copy\nlog/1: is cut: it has 1 bytes\n",
+        ),
+        (
+            "replace.new",
+            "replace.new: isn't a tree's, and opening removes it: move it away\n",
+        ),
+    ];
+    for (name, faults) in rows {
+        let told = checked(alloc, &[], name, b"1")?;
+        let text = format!(in alloc; "{faults}refused: the folder is no tree's\n")?;
+        assert_eq!(rt; told.text.as_str(), text.as_str());
+        assert!(rt; !told.is_good);
+    }
+    let told = checked(alloc, &[], "v0", b"1")?;
+    assert_eq!(rt; told.text.as_str(), "opens\n");
+    Ok(())
+}
+
+/// The table a = z at 0, made at 0, whose sum is that of a = x and 2.
+const OTHER_SUM: &[u8] =
+    b"LSMT\0\0\0\0\0\0\0\0\x01\0\0\0\0\0\0\0\x01\0\0\0\0\0\0\0\0\0\0\x01\0\0\0az";
+
+/// The entries b = 1 and a = 2 at 0, which aren't in order.
+const DISORDER: &[u8] =
+    b"LSMT\0\0\0\0\0\0\0\0\x02\0\0\0\0\0\0\0\x01\0\0\0\0\0\0\0\0\0\0\x01\0\0\0b1\x01\0\0\0\0\0\0\0\0\0\0\x01\0\0\0a2";
+
+#[test]
+fn damaged_tables_are_listed_as_far_as_they_are_read(rt: HostRuntime) -> Result<(), Fail> {
+    let alloc = rt.alloc();
+    let files = image(alloc, true)?;
+    let rows = [
+        (
+            OTHER_SUM,
+            "0\t\"a\"\t\"z\"\ntables/3: the sum differs: stored b72e25e2ac01463851bb09022af9675b, is b92e25e2ac01463851bb09022af9675b\n",
+        ),
+        (
+            DISORDER,
+            "0\t\"b\"\t\"1\"\ntables/3: has no entry, or one that isn't behind the one before it\n",
+        ),
+        // The second entry lacks its last byte.
+        (
+            DISORDER.get(..53).unwrap_or_default(),
+            "0\t\"b\"\t\"1\"\ntables/3: is cut: entry 1, at byte 37, lacks 1 bytes\n",
+        ),
+    ];
+    for (bytes, text) in rows {
+        let mut store = store_of(alloc, &files, "tables/3", Change::Holds(bytes))?;
+        let told = shown(alloc, &mut store, View::Table(3), false, ALL)?;
+        assert_eq!(rt; told.text.as_str(), text);
+        assert!(rt; !told.is_good);
+    }
+    Ok(())
+}

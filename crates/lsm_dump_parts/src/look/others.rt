@@ -1,9 +1,10 @@
-// Names that no version names, and names that are refused.
+// Names that no version names, names that are refused, and those for which a folder is none of a tree's.
 use crate::look::Damage;
 use crate::look::version::Named;
-use lsm_below::TableId;
+use lsm_below::{TableId, parse_number};
 use lsm_log::LogName;
 use lsm_manifest::{NameKind, version_name};
+use lsm_store::missing_current;
 use lsm_versions::VersionId;
 use std::alloc::{AllocError, Global};
 
@@ -61,8 +62,7 @@ fn put_name(alloc: Global, out: &mut Others, name: &str, fate: Fate) -> Result<(
         Fate::Orphan => out.orphans.push(String::from_str(alloc, name)?)?,
         Fate::Foreign => out.foreign.push(String::from_str(alloc, name)?)?,
         Fate::Refused(why) => {
-            let fault = String::from_str(alloc, why)?;
-            out.damage.push(Damage::new(alloc, name, fault)?)?
+            put_fault(alloc, &mut out.damage, name, why)?;
         }
     }
     Ok(())
@@ -87,5 +87,50 @@ pub(crate) fn sort_names(
     }
     out.orphans.sort_unstable();
     out.foreign.sort_unstable();
+    Ok(out)
+}
+
+/// Whether a file of the root is none of a tree's, and yet opening would remove it with the versions.
+fn is_foreign(name: &str) -> bool {
+    match name.strip_prefix('v') {
+        Some(rest) => name != "version" && parse_number(rest.as_bytes()).is_none(),
+        None => false,
+    }
+}
+
+/// Whether a replacement that was left stands beside none of the files that a tree writes before it.
+fn is_lone_replacement(names: &[String]) -> bool {
+    let has = |wanted: &str| names.iter().any(|name| name.as_str() == wanted);
+    has("replace.new") && !has("current") && !has("v0")
+}
+
+fn put_fault(
+    alloc: Global,
+    out: &mut Vec<Damage>,
+    name: &str,
+    words: &str,
+) -> Result<(), AllocError> {
+    out.push(Damage::new(alloc, name, String::from_str(alloc, words)?)?)?;
+    Ok(())
+}
+
+/// For what a folder with these names isn't taken as a tree's, though a store with them would be opened: docs/FORMATS.md has
+/// the rule.
+pub(crate) fn folder_faults(alloc: Global, names: &[String]) -> Result<Vec<Damage>, AllocError> {
+    let mut out = Vec::new(alloc);
+    for name in names {
+        if is_foreign(name.as_str()) {
+            let words = "begins as the versions of a tree do, which opening removes: move it away";
+            put_fault(alloc, &mut out, name.as_str(), words)?;
+        }
+    }
+    if let Some(beside) = missing_current(names) {
+        let fault = format!(in alloc; "is missing beside {beside}: put it back from a copy")?;
+        out.push(Damage::new(alloc, "current", fault)?)?;
+    }
+    if is_lone_replacement(names) {
+        let words = "isn't a tree's, and opening removes it: move it away";
+        put_fault(alloc, &mut out, "replace.new", words)?;
+    }
     Ok(out)
 }

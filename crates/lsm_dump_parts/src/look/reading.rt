@@ -1,7 +1,7 @@
 // What is asked of a store: names and contents, and nothing that changes it.
 ghost use Rattle.lsm_store.specs.World.{Same};
 
-use crate::flaws::{RECORD, TABLE, file_fault};
+use crate::flaws::{RECORD, TABLE, file_fault, sound_front};
 use bytes::Bytes;
 use lsm_below::{Error, SeqNo, TableId, share};
 use lsm_log::{Record, RecordError, decode, record_name};
@@ -84,6 +84,32 @@ pub(crate) fn read_table<S: Store>(
     match content_of(alloc, store, table_name(id).as_str())? {
         Some(content) => table_of(alloc, id, content),
         None => Ok(missing(alloc)?),
+    }
+}
+
+/// The table of the entries that stand in these bytes before the first one that is damaged. None where there are none.
+fn front_of(alloc: Global, id: TableId, bytes: &[u8]) -> Result<Option<Table>, Error> {
+    let Some(front) = sound_front(alloc, bytes)? else {
+        return Ok(None);
+    };
+    match Table::recover(alloc, id, Bytes::from_vec(front)?) {
+        Ok(table) => Ok(Some(table)),
+        Err(TableError::OutOfMemory) => Err(Error::OutOfMemory),
+        Err(TableError::BadTable) => Ok(None),
+    }
+}
+
+/// The entries that stand in the table's file of this id before the first one that is damaged. None where there are none.
+pub(crate) fn read_front<S: Store>(
+    alloc: Global,
+    store: &mut S,
+    id: TableId,
+) -> Result<Option<Table>, Error>
+    ensures { S.tells → Same (S.world store.old) (S.world store.new) }
+{
+    match content_of(alloc, store, table_name(id).as_str())? {
+        Some(content) => front_of(alloc, id, content.as_slice()),
+        None => Ok(None),
     }
 }
 

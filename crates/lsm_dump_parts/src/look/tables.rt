@@ -3,7 +3,7 @@ ghost use Rattle.lsm_store.specs.World.{Same};
 
 use crate::look::Damage;
 use crate::look::reading::{ReadFile, read_table};
-use crate::look::version::{Place, Wanted};
+use crate::look::version::{Place, Wanted, other_sum, sum_fault};
 use crate::shown::{ShownBytes, Sum};
 use lsm_below::{Error, Ranged, SeqNo, TableId};
 use lsm_manifest::table_name;
@@ -79,10 +79,7 @@ impl TableLook {
 
     /// The stored sum and that of the file, where they differ.
     pub fn other_sum(&self) -> Option<(Sum, Sum)> {
-        match (self.place, self.sum) {
-            (Some(place), Some(sum)) if place.stored != sum => Some((place.stored, sum)),
-            _ => None,
-        }
+        other_sum(self.place, self.sum)
     }
 
     /// The level and the run that it stands in.
@@ -152,7 +149,7 @@ fn put_table_damage(
 ) -> Result<(), AllocError> {
     let name = table_name(table.id);
     if let Some((stored, sum)) = table.other_sum() {
-        let fault = format!(in alloc; "the sum differs: stored {stored}, is {sum}")?;
+        let fault = sum_fault(alloc, stored, sum)?;
         out.push(Damage::new(alloc, name.as_str(), fault)?)?;
     }
     let fault = match (&table.fault, &table.entries) {

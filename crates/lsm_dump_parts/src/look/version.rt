@@ -5,7 +5,7 @@ use crate::look::Damage;
 use crate::shown::Sum;
 use lsm_below::{Error, SeqNo, TableId};
 use lsm_manifest::{NameKind, Recovery, get_current_version, kind_of, recover, version_name};
-use lsm_store::Store;
+use lsm_store::{Store, missing_current};
 use lsm_versions::VersionId;
 use serde::Serialize;
 use std::alloc::{AllocError, Global};
@@ -17,6 +17,19 @@ pub struct Place {
     pub run: usize,
     #[serde(rename = "checksum")]
     pub stored: Sum,
+}
+
+/// The stored sum and that of the file, where they differ.
+pub(crate) fn other_sum(place: Option<Place>, sum: Option<Sum>) -> Option<(Sum, Sum)> {
+    match (place, sum) {
+        (Some(place), Some(sum)) if place.stored != sum => Some((place.stored, sum)),
+        _ => None,
+    }
+}
+
+/// What is wrong with a file that has another sum than is stored.
+pub(crate) fn sum_fault(alloc: Global, stored: Sum, sum: Sum) -> Result<String, AllocError> {
+    format!(in alloc; "the sum differs: stored {stored}, is {sum}")
 }
 
 /// A table that is looked at.
@@ -95,6 +108,17 @@ fn damage_of(
     Damage::new(alloc, name, fault)
 }
 
+/// The tables that are there, where no version is read for this damage.
+fn all_tables(alloc: Global, names: &[String], damage: Damage) -> Result<Named, AllocError> {
+    Ok(Named {
+        is_new: false,
+        id: None,
+        log_from: None,
+        tables: tables_among(alloc, names)?,
+        damage: vec![in alloc; damage]?,
+    })
+}
+
 /// The tables that are there where `current`, or the file that it names, is refused with this error.
 fn unnamed<S: Store>(
     alloc: Global,
@@ -110,13 +134,7 @@ fn unnamed<S: Store>(
         Err(Error::Store) => return Err(Error::Store),
         Err(_) => damage_of(alloc, names, "current", why)?,
     };
-    Ok(Named {
-        is_new: false,
-        id: None,
-        log_from: None,
-        tables: tables_among(alloc, names)?,
-        damage: vec![in alloc; damaged]?,
-    })
+    Ok(all_tables(alloc, names, damaged)?)
 }
 
 /// What `current` leads to. Both files are read once, and `current` again where one of them is damaged.
@@ -142,5 +160,29 @@ pub(crate) fn look_at_version<S: Store>(
         Err(Error::OutOfMemory) => Err(Error::OutOfMemory),
         Err(Error::Store) => Err(Error::Store),
         Err(why) => unnamed(alloc, store, names, &why),
+    }
+}
+
+/// What `current` leads to, or all tables that are there: also where `current` is lost, or can't be read.
+#[tactic(auto, using(lsm_store::specs::Moments::same_then))]
+pub(crate) fn find_tables<S: Store>(
+    alloc: Global,
+    store: &mut S,
+    names: &[String],
+) -> Result<Named, Error>
+    ensures { S.tells → Same (S.world store.old) (S.world store.new) }
+{
+    if let Some(beside) = missing_current(names) {
+        let fault = format!(in alloc; "is missing beside {beside}")?;
+        let damage = Damage::new(alloc, "current", fault)?;
+        return Ok(all_tables(alloc, names, damage)?);
+    }
+    match look_at_version(alloc, store, names) {
+        Err(Error::Store) => {
+            let fault = String::from_str(alloc, "leads to no version that can be read")?;
+            let damage = Damage::new(alloc, "current", fault)?;
+            Ok(all_tables(alloc, names, damage)?)
+        }
+        told => told,
     }
 }
