@@ -5,12 +5,11 @@ use Rattle.lsm_below.specs.declared.error.Error.{Error}
 use Rattle.lsm_below.specs.declared.error.Error.TheVariants as error
 use Rattle.lsm_store.specs.World.{World}
 use Rattle.lsm_versions.specs.Levels.{SeenVersion}
-use Rattle.lsm_manifest.specs.declared.fault.OpenError.TheVariants as opening
 use Rattle.lsm_manifest.specs.declared.found.Found.{Found}
 use Rattle.lsm_manifest.specs.declared.opening.Opened.{Opened}
 use Rattle.lsm_manifest.specs.Looking.{Looks}
 use Rattle.lsm_manifest.specs.Opening.{Opens, OpensFiles, OpensNew, OpensAs, IsOlder, KeepsFiles, LeavesStanding}
-use Rattle.lsm_manifest.specs.OpeningLaws.{told_unrecoverable, told_with, told_not_as, found_others, found_first}
+use Rattle.lsm_manifest.specs.OpeningLaws.{told_memory, told_unrecoverable, told_with, told_not_as, found_others, found_first}
 use Rattle.lsm_manifest.specs.OpeningWith.{IsUnrecoverable}
 use Rattle.lsm_manifest.specs.Ready.{OpeningLeavesRead}
 use Rattle.lsm_manifest.specs.Told.{Told, TellsOpen, told_weaker}
@@ -50,21 +49,21 @@ module _ {S : Type 0} (world : S → World) (law : OpeningLeavesRead S world) (o
   -- for want of memory, when nothing has changed
   pub memory_so : (f : Found) → Looks (world old) (world new) f → OpensRecorded world old (Err (error.OutOfMemory, new))
   memory_so f looks = refused_so error.OutOfMemory (
-    opening.OutOfMemory,
-    refl,
-    record {
-      version = λ there. tt;
-      opens = λ none there. tt;
-      from = λ there. tt;
-      takes = λ id ls ts stands small. tt;
-      fresh = λ none absent. tt;
-      removes = λ id ls named. tt;
-      settles = λ there. tt;
-      keeps = tt;
-      unnamed = λ unnamed. looks.same;
-      older = λ there. looks.same;
-    },
-  )
+      told_memory
+      (Opens (world old) (world new))
+      record {
+        version = λ there. tt;
+        opens = λ none there. tt;
+        from = λ there. tt;
+        takes = λ id ls ts stands small. tt;
+        fresh = λ none absent. tt;
+        removes = λ id ls named. tt;
+        settles = λ there. tt;
+        keeps = tt;
+        unnamed = λ unnamed. looks.same;
+        older = λ there. looks.same;
+      }
+      )
 
   -- since its tables aren't in order
   pub others_so : (f : Found) → Looks (world old) (world new) f → FoundStanding (world old) f → (TablesAreInOrder f.opened.version.levels → ⊥) → OpensRecorded world old (Err (error.Unrecoverable, new))
