@@ -8,16 +8,16 @@ const COLUMNS: usize = 72;
 
 /// A run as it is drawn.
 #[derive(Drop)]
-pub struct DrawnRun<'a> {
-    pub level: usize,
+struct DrawnRun<'a> {
+    level: usize,
     /// Which run of its level it is, from 0 on.
-    pub place: usize,
+    place: usize,
     /// The first and the last key of each table that is drawn.
-    pub spans: Vec<(&'a [u8], &'a [u8])>,
+    spans: Vec<(&'a [u8], &'a [u8])>,
     /// How many tables there are, their bytes, and how many aren't drawn, since they are damaged.
-    pub tables: usize,
-    pub bytes: u64,
-    pub damaged: usize,
+    tables: usize,
+    bytes: u64,
+    damaged: usize,
 }
 
 /// Where a first or a last key stands on a line, at even distances: `keys` are those of all tables, rising, each once.
@@ -79,7 +79,7 @@ fn push_ends(alloc: Global, out: &mut String, keys: &[&[u8]]) -> Result<(), Allo
 }
 
 /// Appends a line for each run, and one with the keys at both ends.
-pub fn push_runs(alloc: Global, out: &mut String, runs: &[DrawnRun<'_>]) -> Result<(), AllocError> {
+fn push_runs(alloc: Global, out: &mut String, runs: &[DrawnRun<'_>]) -> Result<(), AllocError> {
     let mut keys = Vec::new(alloc);
     for run in runs {
         for (first, last) in &run.spans {

@@ -36,7 +36,6 @@ pub use arguments::{Plan, Slice, Task, View, list_arguments, parse_arguments};
 pub use entries::{Bounds, bounds_of};
 pub use export::{Export, export_pairs};
 pub use folder::FolderView;
-pub use levels::{DrawnRun, push_runs};
 pub use look::{Damage, Entries, Key, Look, Place, RecordLook, TableLook, Writes, look_into};
 pub use run::{Shown, run_dump, show};
 pub use shown::{ShownBytes, Sum};
