@@ -249,3 +249,33 @@ fn doubled_sections_are_refused(rt: HostRuntime) -> Result<(), Fail> {
     }
     Ok(())
 }
+
+/// How many neighbours there are among the sections, where the version's file with both swapped is refused.
+fn count_swapped(alloc: Global, store: &mut MemStore, at: Place) -> Result<usize, Fail> {
+    let good = whole(alloc, store, at)?;
+    let mut count: usize = 0;
+    for ((from, middle), (_, to)) in SECTIONS.iter().zip(SECTIONS.iter().skip(1)) {
+        if *to > good.len() {
+            return Ok(count);
+        }
+        let mut bytes = good.get(..*from).unwrap_or_default().to_vec(alloc)?;
+        bytes.extend_from_slice(good.get(*middle..*to).unwrap_or_default())?;
+        bytes.extend_from_slice(good.get(*from..*middle).unwrap_or_default())?;
+        bytes.extend_from_slice(good.get(*to..).unwrap_or_default())?;
+        if tells(alloc, store, at, &bytes, Some(UNRECOVERABLE))? {
+            count = count.saturating_add(1);
+        }
+    }
+    Ok(count)
+}
+
+#[test]
+fn swapped_sections_are_refused(rt: HostRuntime) -> Result<(), Fail> {
+    for (format, count) in [(FORMAT_3, 5), (FORMAT_4, 6)] {
+        let mut store = MemStore::new(rt.alloc());
+        let swapped = count_swapped(rt.alloc(), &mut store, ("v5", true, format));
+        drop(store);
+        assert_eq!(rt; swapped?, count);
+    }
+    Ok(())
+}
