@@ -30,23 +30,26 @@ impl<S: SessionStore> Session<S> {
         }
     }
 
-    /// Opens the tree, also again, from its store: how many tables it has. Refused, the store is kept.
-    pub fn open(&mut self) -> Result<usize, Refusal> {
-        let store = match self.tree.take() {
+    fn take_store(&mut self) -> Option<S> {
+        match self.tree.take() {
             Some(tree) => Some(tree.into_store()),
             None => self.store.take(),
-        };
-        let Some(store) = store else {
+        }
+    }
+
+    /// Opens the tree, also again, from its store: how many tables it has. Refused, the store is kept.
+    pub fn open(&mut self) -> Result<usize, Refusal> {
+        let Some(store) = self.take_store() else {
             return Err(Refusal::new(Error::Store, None));
         };
         match SessionTree::open(self.alloc, store, self.is_logged) {
             Ok(tree) => {
                 let tables = tree.tree().table_count();
-                self.tree = Some(tree);
+                drop(self.tree.replace(tree));
                 Ok(tables)
             }
             Err(Unopened { refusal, store }) => {
-                self.store = Some(store);
+                drop(self.store.replace(store));
                 Err(refusal)
             }
         }
@@ -120,8 +123,8 @@ impl<S: SessionStore> Session<S> {
         let Some(left) = store.crashed()? else {
             return Ok(Reply::Usage);
         };
-        self.tree = None;
-        self.store = Some(left);
+        drop(self.tree.take());
+        drop(self.store.replace(left));
         Ok(Reply::Word("crashed"))
     }
 }

@@ -64,12 +64,12 @@ where
         Mode::Threads(callers) => report_callers(rt, alloc, callers, output),
         Mode::Memory(is_logged) => {
             let session = Session::new(alloc, MemStore::new(alloc), is_logged);
-            answer_lines(alloc, session, input, output, errors)
+            hold_session(alloc, session, input, output, errors)
         }
         Mode::Folder(folder, is_logged) => match open_folder(rt, alloc, folder, watch) {
             Ok(store) => {
                 let session = Session::new(alloc, store, is_logged);
-                answer_lines(alloc, session, input, output, errors)
+                hold_session(alloc, session, input, output, errors)
             }
             Err(refusal) => refuse(refusal, output, errors),
         },
@@ -137,10 +137,29 @@ where
     Ok(FAULT)
 }
 
+/// Has a session until its lines are answered.
+fn hold_session<S, R, W, E>(
+    alloc: Global,
+    mut session: Session<S>,
+    input: R,
+    output: W,
+    errors: Errors<E>,
+) -> io::Result<u8>
+where
+    S: SessionStore,
+    R: Read + Drop,
+    W: Write + Drop,
+    E: Write + Drop,
+{
+    let told = answer_lines(alloc, &mut session, input, output, errors);
+    drop(session);
+    told
+}
+
 /// Opens the tree of a session and answers lines from it, or says why it wasn't opened.
 fn answer_lines<S, R, W, E>(
     alloc: Global,
-    mut session: Session<S>,
+    session: &mut Session<S>,
     input: R,
     output: W,
     errors: Errors<E>,
@@ -157,7 +176,7 @@ where
     let mut errors = errors;
     let mut output = BufWriter::new(alloc, output)?;
     let mut input = BufReader::new(alloc, input)?;
-    answer_each(alloc, &mut session, &mut input, &mut output, &mut errors)?;
+    answer_each(alloc, session, &mut input, &mut output, &mut errors)?;
     Ok(SUCCESS)
 }
 

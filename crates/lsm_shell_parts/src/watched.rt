@@ -1,4 +1,6 @@
 // A store that says how far long work is, for whoever waits for it.
+ghost use Rattle.std.specs.Prelude.{◌≡◌};
+
 use crate::cause::SessionStore;
 use bytes::Bytes;
 use lsm_tree::{Error, FolderError, FolderFault, Store, StoreError};
@@ -56,7 +58,9 @@ impl<S: SessionStore, C: Clock + Drop, E: Write + Drop> WatchedStore<S, C, E> {
 
     /// Begins with an opening of so many tables, or with writing. Nothing is counted where nobody watches, or where the time
     /// can't be told.
-    fn begin(&mut self, all: Option<u64>) {
+    fn begin(&mut self, all: Option<u64>)
+        ensures { self.new.inner ≡ self.old.inner }
+    {
         self.task = match (&self.watch, Instant::now(&self.clock)) {
             (Some(_), Ok(since)) => Some(Task {
                 all,
@@ -78,7 +82,9 @@ impl<S: SessionStore, C: Clock + Drop, E: Write + Drop> WatchedStore<S, C, E> {
     }
 
     /// Counts a table, and says how far the work is once a beat has passed.
-    fn count(&mut self, bytes: usize) {
+    fn count(&mut self, bytes: usize)
+        ensures { self.new.inner ≡ self.old.inner }
+    {
         let (Some(watch), Some(task)) = (&mut self.watch, &mut self.task) else {
             return;
         };
