@@ -89,10 +89,7 @@ fn finish<R: Print + Wait>(rt: &R, tree: &Tree) -> Result<()> {
     Ok(())
 }
 
-pub(crate) fn run<R: Print + Threads + Wait + Copy + Send + Sync + 'static>(
-    rt: R,
-    alloc: Global,
-) -> Result<()> {
+pub(crate) fn run(rt: HostRuntime, alloc: Global) -> Result<()> {
     let tree = Handle::new(alloc, open(alloc)?)?;
     let stop = Arc::new(alloc, Mutex::new(false))?;
 
