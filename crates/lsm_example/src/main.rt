@@ -14,8 +14,11 @@ mod strategy;
 mod threads;
 
 use anyhow::Result;
-use lsm_tree::{Config, MemStore, TreeState, UserKey};
+use lsm_tree::{Config, Handle, MemStore, TreeState, UserKey};
 use std::alloc::Global;
+use std::sync::{Arc, Mutex};
+use std::thread;
+use threads::{finish, keep_compacting, write_all};
 
 /// A key or a value of these letters.
 fn text(letters: &'static str) -> UserKey {
@@ -32,5 +35,17 @@ fn main(rt: HostRuntime) -> Result<()> {
     snapshots::run(&rt, rt.alloc())?;
     ranges::run(&rt, rt.alloc())?;
     strategy::run(&rt, rt.alloc())?;
-    threads::run(rt, rt.alloc())
+
+    let alloc = rt.alloc();
+    let tree = Handle::new(alloc, open(alloc)?)?;
+    let stop = Arc::new(alloc, Mutex::new(false))?;
+
+    let (other, told) = (tree.clone()?, Arc::try_clone(&stop)?);
+    let worker = thread::spawn(&rt, move || keep_compacting(&rt, alloc, &other, &told))?;
+    let wrote = write_all(&rt, alloc, &tree);
+    *stop.lock(&rt) = true;
+    worker.join(&rt)?;
+
+    println!(rt; "each writer read what it wrote: {}", wrote?)?;
+    finish(&rt, &tree)
 }

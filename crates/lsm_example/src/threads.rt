@@ -1,10 +1,10 @@
-//! A tree that several threads share: four of them write and read, and one compacts beside them.
+//! What the threads do that share a tree: four of them write and read, and one compacts beside them. `main` starts that one, since
+//! the runtime can be sent to a thread only there.
 
-use crate::open;
 use anyhow::Result;
-use lsm_tree::{Error, Handle, Leveled, Op, RunJob, Tree, UserKey};
+use lsm_tree::{Error, Leveled, Op, RunJob, Tree, UserKey};
 use std::alloc::{AllocError, Global};
-use std::sync::{Arc, Mutex, Wait};
+use std::sync::{Mutex, Wait};
 use std::thread::{self, Threads};
 
 const WRITERS: usize = 4;
@@ -44,7 +44,7 @@ fn write_keys(rt: &impl Wait, alloc: Global, tree: &Tree, writer: usize) -> Resu
 }
 
 /// Compacts until it is told to stop. A merge holds no lock, so the writers go on meanwhile.
-fn keep_compacting(
+pub(crate) fn keep_compacting(
     rt: &impl Wait,
     alloc: Global,
     tree: &Tree,
@@ -62,7 +62,11 @@ fn keep_compacting(
 }
 
 /// Starts the writers, and waits for them: whether all read what they wrote.
-fn write_all<R: Threads + Wait + Sync>(rt: &R, alloc: Global, tree: &Tree) -> Result<bool, Error> {
+pub(crate) fn write_all<R: Threads + Wait + Sync>(
+    rt: &R,
+    alloc: Global,
+    tree: &Tree,
+) -> Result<bool, Error> {
     let told = thread::map_indices(
         rt,
         alloc,
@@ -78,7 +82,7 @@ fn write_all<R: Threads + Wait + Sync>(rt: &R, alloc: Global, tree: &Tree) -> Re
 }
 
 /// Merges what is left into one table, when nobody reads an older snapshot any more.
-fn finish<R: Print + Wait>(rt: &R, tree: &Tree) -> Result<()> {
+pub(crate) fn finish<R: Print + Wait>(rt: &R, tree: &Tree) -> Result<()> {
     let now = tree.visible_number(rt);
     tree.major_compact(rt, u64::MAX, now)?;
     println!(rt;
@@ -87,18 +91,4 @@ fn finish<R: Print + Wait>(rt: &R, tree: &Tree) -> Result<()> {
         tree.table_count(rt)
     )?;
     Ok(())
-}
-
-pub(crate) fn run(rt: HostRuntime, alloc: Global) -> Result<()> {
-    let tree = Handle::new(alloc, open(alloc)?)?;
-    let stop = Arc::new(alloc, Mutex::new(false))?;
-
-    let (other, told) = (tree.clone()?, Arc::try_clone(&stop)?);
-    let worker = thread::spawn(&rt, move || keep_compacting(&rt, alloc, &other, &told))?;
-    let wrote = write_all(&rt, alloc, &tree);
-    *stop.lock(&rt) = true;
-    worker.join(&rt)?;
-
-    println!(rt; "each writer read what it wrote: {}", wrote?)?;
-    finish(&rt, &tree)
 }
