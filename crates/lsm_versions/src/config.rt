@@ -14,7 +14,7 @@ pub const LIMIT: SeqNo = 9_223_372_036_854_775_808;
 ///
 /// ```text
 /// let config = Config::new(0, 0, 0); // tree 0, both counters at 0
-/// let opened = TreeState::open(alloc, config, MemStore::new(alloc));
+/// let opened = TreeState::open_unlogged(alloc, config, MemStore::new(alloc));
 /// ```
 #[derive(Clone, Copy, Debug, PartialEq, Eq)]
 pub struct Config {
