@@ -63,7 +63,8 @@ pub use lsm_parts::{
     SuperVersions, Version, VersionId,
 };
 pub use lsm_pick::{
-    Choice, ChooseError, CompactionStrategy, DropRange, Fifo, Leveled, Major, OwnedBounds,
+    Choice, ChooseError, CompactionStrategy, DropRange, Fifo, Leveled, Major, OwnedBounds, fifo,
+    leveled,
 };
 pub use lsm_store::{Fault, MemStore, Pick, Store, StoreError};
 pub use lsm_tables::Checksum;

@@ -1,38 +1,11 @@
-//! The tree for its callers: handles on a tree that several of them share, and the names of all crates below.
+//! The tree for its callers: the names of all crates below, and no code of its own.
 //!
 //! | Module | Holds |
 //! |-|-|
-//! | `handle` | trees that several callers share, behind one lock |
-//! | `shared` | the calls of a tree behind the lock |
-//! | `shared::flush` | its flushes |
-//! | `shared::compaction` | its compactions |
-//! | `lock` | how a call takes the lock |
-//! | `gate` | who does the merge of a compaction while no lock is held |
-//! | `recorded` | the calls of a tree with its journal, behind the lock |
-//! | `recorded::flush` | its flushes |
-//! | `recorded::compaction` | its compactions |
-//! | `logged` | the calls of a tree with a log above it, behind the lock |
-//! | `logged::flush` | its flushes |
-//! | `logged::compaction` | its compactions |
-//! | `reads` | the reads of those that note none |
-//! | `counts` | what is counted and told of each of them |
 //! | `laws` | theorems as the contracts of functions that do nothing |
 #![tactic(auto)]
 
-mod counts;
-mod gate;
-mod handle;
 pub mod laws;
-mod lock;
-mod logged;
-mod reads;
-mod recorded;
-mod shared;
-
-pub use counts::HasTree;
-pub use gate::{Gate, RunJob};
-pub use handle::{Handle, LoggedTree, RecordedTree, Tree};
-pub use reads::ReadsTree;
 
 // Entries, tables, memtables, iterators.
 pub use lsm_below::{
@@ -66,7 +39,7 @@ pub use lsm_parts::{
 };
 pub use lsm_pick::{
     Choice, ChooseError, CompactionStrategy, DropRange, FIFO_COMPACTION_NAME, Fifo,
-    LEVELED_COMPACTION_NAME, Leveled, Levelled, Major, OwnedBounds,
+    LEVELED_COMPACTION_NAME, Leveled, Levelled, Major, OwnedBounds, fifo, leveled,
 };
 pub use lsm_state::{
     Begun, Finished, Found, MAX_KEY_LEN, MAX_VALUE_LEN, Options, TreeState, do_compaction,
@@ -85,7 +58,11 @@ pub use lsm_store::{
     Fault, FolderCall, FolderError, FolderFault, FolderStore, MemStore, Pick, Store, StoreError,
 };
 
+// The tree behind a lock.
+pub use lsm_handles::{Gate, Handle, HasTree, LoggedTree, ReadsTree, RecordedTree, RunJob, Tree};
+
 // Calls as data, the call history and the log.
+pub use lsm_log_runs::{LogStep, TakenLogged, live_logged, run_logged};
 pub use lsm_logged::Logged;
 pub use lsm_model::{Answer, JournalEntry, KeyBound, KeyRanges, KvPairs, Op, Ops, Question};
 pub use lsm_recorded::{Closed, Pass, Recorded, SharedEntry};
