@@ -4,7 +4,7 @@ ghost use Rattle.std.specs.Ordering.{nat_cmp};
 ghost use Rattle.std.specs.BTreeMap.{get};
 ghost use Rattle.lsm_runs.specs.Slots.{SameJobs};
 
-use lsm_compaction::{CompactionJob, MergedCompaction};
+use lsm_compaction::{KeptCompacted, KeptCompaction};
 use lsm_flush::{KeptFlush, KeptMerged, KeptWritten};
 use std::alloc::AllocError;
 use std::collections::BTreeMap;
@@ -22,9 +22,9 @@ pub enum Job {
     /// One whose tables are written.
     Written(KeptWritten),
     /// A merge that was begun.
-    Compaction(CompactionJob),
+    Compaction(KeptCompaction),
     /// One that was done.
-    Compacted(MergedCompaction),
+    Compacted(KeptCompacted),
 }
 
 /// Jobs by slot. None stands in a slot that is free again.
