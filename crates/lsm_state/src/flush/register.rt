@@ -188,11 +188,15 @@ impl<S: Store> TreeState<S> {
         crashes_leave_versions(&self.store);
         self.close_flush(job.job().number());
         if self.lost.is_some() {
+            drop(job.keep());
             return Err(Error::Unrecoverable);
         }
         if current {
-            return self.install(&job);
+            let installed = self.install(&job);
+            drop(job.keep());
+            return installed;
         }
+        drop(job.keep());
         Ok(Registered {
             installed: false,
             cleaned: true,
