@@ -17,18 +17,18 @@ use std::alloc::{AllocError, Global};
 use std::collections::HashSet;
 use std::marker::Model;
 
-/// A merge that is to be done outside the tree: tables by runs, the newest run first, shared with it.
+/// A merge that is to be done outside the tree: tables by runs, the newest run first, shared with it. While it is underway no
+/// other compaction takes its tables, so the compiler refuses code that lets a job go: it is finished in the end, or given up.
 ///
 /// ```text
 /// let merged = job.run()?; // no lock is needed for it
 /// ```
-#[derive(Drop)]
 pub struct CompactionJob {
-    alloc: Global,
-    number: u64,
-    ids: HashSet<TableId>,
-    inputs: Vec<Run<Table>>,
-    settings: MergeSettings,
+    pub(crate) alloc: Global,
+    pub(crate) number: u64,
+    pub(crate) ids: HashSet<TableId>,
+    pub(crate) inputs: Vec<Run<Table>>,
+    pub(crate) settings: MergeSettings,
 }
 
 impl Model for CompactionJob {
@@ -130,16 +130,15 @@ impl CompactionJob {
     }
 }
 
-/// A merge that was done: the contents of the files of its tables, for which no ids are drawn yet.
+/// A merge that was done: the contents of the files of its tables, for which no ids are drawn yet. It isn't let go either.
 ///
 /// ```text
 /// for file in merged.files() { .. } // each is written under an id that is drawn for it
 /// let tables = merged.tables(&ids)?;
 /// ```
-#[derive(Drop)]
 pub struct MergedCompaction {
-    job: CompactionJob,
-    files: Vec<Bytes>,
+    pub(crate) job: CompactionJob,
+    pub(crate) files: Vec<Bytes>,
 }
 
 impl Model for MergedCompaction {
@@ -216,7 +215,9 @@ impl MergedCompaction {
     pub fn into_job(self) -> CompactionJob
         ensures { result ≡ self.job }
     {
-        self.job
+        let MergedCompaction { job, files } = self;
+        drop(files);
+        job
     }
 
     /// The tables of its files under these ids, one for each file in turn. They share the bytes. The cost is linear in the

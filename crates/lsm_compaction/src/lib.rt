@@ -10,11 +10,13 @@
 //! | `writing` | what a source gives, as the contents of tables' files |
 //! | `merging` | what a compaction keeps of runs, as the contents of files |
 //! | `jobs` | the job of a merge, and what it makes |
+//! | `kept` | jobs as values that may be let go |
 //! | `open_merges` | the merges that a tree has open, and the tables that they work on |
 #![tactic(auto)]
 
 mod inputs;
 mod jobs;
+mod kept;
 mod merging;
 mod open_merges;
 mod open_table;
@@ -25,6 +27,7 @@ mod writing;
 
 pub use inputs::chosen_inputs;
 pub use jobs::{CompactionJob, MergedCompaction};
+pub use kept::{KeptCompacted, KeptCompaction};
 pub use merging::merge_runs;
 pub use open_merges::OpenMerges;
 pub use settings::MergeSettings;

@@ -12,16 +12,16 @@ use lsm_tables::{Parts, Table};
 use std::alloc::{AllocError, Global};
 use std::marker::Model;
 
-/// A flush that is to be done outside the tree: memtables from the newest, shared with it.
+/// A flush that is to be done outside the tree: memtables from the newest, shared with it. While it is underway no other flush
+/// is begun, so the compiler refuses code that lets a job go: it is registered in the end, or given up.
 ///
 /// ```text
 /// let merged = job.run(watermark)?; // no lock is needed for it
 /// ```
-#[derive(Drop)]
 pub struct FlushJob {
-    alloc: Global,
-    number: u64,
-    memtables: Vec<SealedMemtable>,
+    pub(crate) alloc: Global,
+    pub(crate) number: u64,
+    pub(crate) memtables: Vec<SealedMemtable>,
 }
 
 impl Model for FlushJob {
@@ -120,12 +120,11 @@ impl FlushJob {
     }
 }
 
-/// A flush that was merged: what is kept of its memtables.
-#[derive(Drop)]
+/// A flush that was merged: what is kept of its memtables. It isn't let go either.
 pub struct MergedFlush {
-    job: FlushJob,
-    watermark: SeqNo,
-    kept: Kept,
+    pub(crate) job: FlushJob,
+    pub(crate) watermark: SeqNo,
+    pub(crate) kept: Kept,
 }
 
 impl Model for MergedFlush {
@@ -171,7 +170,13 @@ impl MergedFlush {
     pub fn into_job(self) -> FlushJob
         ensures { result ≡ self.job }
     {
-        self.job
+        let MergedFlush {
+            job,
+            watermark: _,
+            kept,
+        } = self;
+        drop(kept);
+        job
     }
 
     /// With tables that hold its entries, and are a run.
@@ -194,12 +199,11 @@ impl MergedFlush {
     }
 }
 
-/// A flush whose tables are written, and which may be registered.
-#[derive(Drop)]
+/// A flush whose tables are written, and which may be registered. It isn't let go either.
 pub struct WrittenFlush {
-    job: FlushJob,
-    watermark: SeqNo,
-    tables: Vec<Table>,
+    pub(crate) job: FlushJob,
+    pub(crate) watermark: SeqNo,
+    pub(crate) tables: Vec<Table>,
 }
 
 impl Model for WrittenFlush {
@@ -245,7 +249,13 @@ impl WrittenFlush {
     pub fn into_job(self) -> FlushJob
         ensures { result ≡ self.job }
     {
-        self.job
+        let WrittenFlush {
+            job,
+            watermark: _,
+            tables,
+        } = self;
+        drop(tables);
+        job
     }
 }
 

@@ -14,13 +14,9 @@ use Rattle.lsm_state.specs.Compactions.{Relation, BeginsCompaction, Finishes, Sp
 use Rattle.lsm_state.specs.WholeCompactions.{options_at, told_end}
 use Rattle.lsm_recorded.specs.Flushing.{SpendsUnnoted}
 use Rattle.lsm_recorded.specs.Compacting.{BeginsRecorded, FinishesRecorded}
-use Rattle.lsm_logged.specs.Asking.{Asks}
+use Rattle.lsm_logged.specs.Asking.{Asks, FinishesLogged}
 use Rattle.lsm_state.specs.Files.{BeginsFiles, FinishesFiles}
 use Rattle.lsm_handles.specs.Shared.{OnSomeTreeFiles, OnSomeTreeAlone, OnSomeRecordedFiles, OnSomeLogged, OnSomeLoggedFiles, TouchesTreeAlone}
-
--- it is never a job
-abbrev pub IsNoJob : Result Begun Error → Type 0
-IsNoJob r = (job : SeenCompaction) → r ≡ Ok (Job job) → ⊥
 
 -- ---- a tree
 
@@ -66,7 +62,7 @@ pub record CompactsGatedRecorded {S : Type 0} (tells : Type 0) (world : S → Wo
 abbrev pub EndsGatedLogged : {S : Type 0} → Type 0 → (S → World) → SeenCompaction → Result Begun Error → Type 0
 EndsGatedLogged {S} tells world job r =
     ((r ≡ Err OutOfMemory) × OnSomeLogged S (TouchesTreeAlone (λ old new. Spends job old new)))
-    ⊎ ((end : Result Finished Error) × (r ≡ told_end end) × OnSomeLoggedFiles tells world (FinishesFiles end) (λ old new. Asks end old new (Finishes job end old.core new.core)))
+    ⊎ ((end : Result Finished Error) × (r ≡ told_end end) × OnSomeLoggedFiles tells world (FinishesFiles end) (λ old new. FinishesLogged job end old new))
 
 abbrev pub FollowsGatedLogged : {S : Type 0} → Type 0 → (S → World) → Result Begun Error → Result Begun Error → Type 0
 FollowsGatedLogged tells world (Ok (Job job)) r = EndsGatedLogged tells world job r

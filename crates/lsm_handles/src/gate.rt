@@ -1,11 +1,11 @@
 // Who does the merge of a compaction while no lock is held.
 ghost use Rattle.std.specs.Prelude.{◌≡◌, IfOk, IfErr};
 ghost use Rattle.lsm_compaction.specs.Merges.{AreFilesOf};
-ghost use Rattle.lsm_state.specs.WholeCompactions.{told_end};
+ghost use Rattle.lsm_state.specs.WholeCompactions.{as_begun, told_end};
 
 use lsm_compaction::{CompactionJob, MergedCompaction};
 use lsm_parts::Error;
-use lsm_state::{Begun, Finished};
+use lsm_state::Finished;
 
 /// Does the merge of a compaction between its beginning and its end, while no lock is held: see `Tree::compact_gated`.
 ///
@@ -47,12 +47,11 @@ impl Gate for RunJob {
 }
 
 /// The end of a merge, as the whole compaction tells it.
-pub(crate) fn told_end(finished: Result<Finished, Error>) -> Result<Begun, Error>
-    ensures { result ≡ told_end finished }
+pub(crate) fn told_end(finished: Result<Finished, Error>) -> Result<Option<Finished>, Error>
+    ensures { as_begun result ≡ told_end finished }
 {
     match finished {
-        Ok(Finished::Installed) => Ok(Begun::Installed),
-        Ok(Finished::Declined(why)) => Ok(Begun::Declined(why)),
+        Ok(finished) => Ok(Some(finished)),
         Err(error) => Err(error),
     }
 }
@@ -62,9 +61,9 @@ macro_rules! follow {
     ($begun:expr, |$job:ident| $end:expr) => {
         match $begun {
             Ok(Begun::Job($job)) => $end,
-            Ok(Begun::DidNothing) => Ok(Begun::DidNothing),
-            Ok(Begun::Declined(why)) => Ok(Begun::Declined(why)),
-            Ok(Begun::Installed) => Ok(Begun::Installed),
+            Ok(Begun::DidNothing) => Ok(None),
+            Ok(Begun::Declined(why)) => Ok(Some(Finished::Declined(why))),
+            Ok(Begun::Installed) => Ok(Some(Finished::Installed)),
             Err(error) => Err(error),
         }
     };

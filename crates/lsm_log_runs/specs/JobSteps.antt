@@ -18,7 +18,7 @@ use Rattle.lsm_state.specs.Flushes.{spent}
 use Rattle.lsm_state.specs.declared.compaction.Begun.{Begun as HowBegun}
 use Rattle.lsm_state.specs.declared.compaction.Finished.{Finished}
 use Rattle.lsm_state.specs.declared.compaction.Options.{Options}
-use Rattle.lsm_logged.specs.Asking.{Asks}
+use Rattle.lsm_logged.specs.Asking.{Asks, FinishesLogged}
 use Rattle.lsm_logged.specs.Flushing.{BeginsLogged, WritesJobLogged, RegistersLogged}
 use Rattle.lsm_logged.specs.Keeping.{SeenLogged}
 use Rattle.lsm_log_runs.specs.Slots.{LogStage, StaysBeside}
@@ -81,7 +81,7 @@ pub record EndsFrom {S : Type 0} (reply : Reply) (was is : Option Job) (old new 
   pub waited : was ≡ Some (CompactedJob job)
   pub free : is ≡ None
   pub end : Result Finished Error
-  pub ends : Asks end old new (Finishes job.job end old.core new.core)
+  pub ends : FinishesLogged job.job end old new
   pub told : reply ≡ end_reply_of end
 
 abbrev pub TakesFinish : {S : Type 0} → Reply → Option Job → Option Job → SeenLogged S → SeenLogged S → Type 0

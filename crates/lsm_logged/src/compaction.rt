@@ -3,13 +3,13 @@ ghost use Rattle.std.specs.Prelude.{◌≡◌, ◌<◌, ◌^◌, true};
 ghost use Rattle.lsm_below.specs.Numbers.{PlainNumbersAreRead};
 ghost use Rattle.lsm_state.specs.Commits.{Upholds};
 ghost use Rattle.lsm_state.specs.CompactionDeeds.{CompactionsAreDeeds};
-ghost use Rattle.lsm_state.specs.Compactions.{BeginsChoice, BeginsCompaction, Finishes, Spends};
+ghost use Rattle.lsm_state.specs.Compactions.{BeginsChoice, BeginsCompaction, Spends};
 ghost use Rattle.lsm_state.specs.FlushLaws.{FlushesAreDeeds};
 ghost use Rattle.lsm_state.specs.Kept.{IsKeptTree};
-ghost use Rattle.lsm_state.specs.WholeCompactions.{CompactsChoice, Compacts, DropsRange, options_at, only_memory, major_choice};
+ghost use Rattle.lsm_state.specs.WholeCompactions.{as_begun, CompactsChoice, Compacts, DropsRange, options_at, only_memory, major_choice};
 ghost use Rattle.lsm_state.specs.Files.{BeginsFiles, FinishesFiles, CompactsFiles};
 ghost use Rattle.lsm_logged.specs.Acting.{ActsNot, IsMerging, DropsWithin, CompactsBy, CompactsAct, MergesAct};
-ghost use Rattle.lsm_logged.specs.Asking.{Asks};
+ghost use Rattle.lsm_logged.specs.Asking.{Asks, FinishesLogged};
 ghost use Rattle.lsm_logged.specs.Keeping.{is_unsure, tree_of};
 
 use crate::Logged;
@@ -109,16 +109,23 @@ impl<S: Store> Logged<S> {
     ///
     /// # Errors
     ///
-    /// As that call, and `Unrecoverable` also where a record has unknown outcome.
+    /// As that call, and `Unrecoverable` also where a record has unknown outcome. The job is spent whatever is answered.
     pub fn finish_compaction(&mut self, merged: MergedCompaction) -> Result<Finished, Error>
-        ensures asks { Asks result self.old self.new (Finishes merged.job result self.old.core self.new.core) }
+        ensures finishes { FinishesLogged merged.job result self.old self.new }
         // As the theory sees it: a merge after the mark of its beginning, or one of unknown outcome, else nothing.
         ensures acts { S.tells → MergesAct merged.job result (S.world self.old.store) (S.world self.new.store) self.old self.new }
         ensures upholds { S.tells → Upholds (S.world self.old.store) (S.world self.new.store) self.old.core self.new.core }
         ensures files { FinishesFiles result S.tells S.world (tree_of self.old) (tree_of self.new) }
         ensures no_call { is_unsure self.old ≡ true → self.new.store ≡ self.old.store }
     {
-        unless_doubted!(self, finish_compaction(merged))
+        self.acts_are_known();
+        self.tree.is_upheld();
+        crashes_leave_versions(self.tree.store());
+        if self.doubted {
+            self.tree.abandon_compaction(merged.into_job());
+            return Err(Error::Unrecoverable);
+        }
+        self.tree.finish_compaction(merged)
     }
 
     /// `TreeState::abandon_compaction`.
@@ -138,11 +145,15 @@ impl<S: Store> Logged<S> {
     /// # Errors
     ///
     /// As that call, and `Unrecoverable` also where a record has unknown outcome.
-    pub fn compact_choice(&mut self, choice: Choice, options: Options) -> Result<Begun, Error>
-        ensures asks { Asks result self.old self.new (CompactsChoice choice options result self.old.core self.new.core) }
-        ensures acts { S.tells → CompactsAct options.mvcc_gc_watermark result (S.world self.old.store) (S.world self.new.store) self.old self.new }
+    pub fn compact_choice(
+        &mut self,
+        choice: Choice,
+        options: Options,
+    ) -> Result<Option<Finished>, Error>
+        ensures asks { Asks (as_begun result) self.old self.new (CompactsChoice choice options (as_begun result) self.old.core self.new.core) }
+        ensures acts { S.tells → CompactsAct options.mvcc_gc_watermark (as_begun result) (S.world self.old.store) (S.world self.new.store) self.old self.new }
         ensures upholds { S.tells → Upholds (S.world self.old.store) (S.world self.new.store) self.old.core self.new.core }
-        ensures files { CompactsFiles result S.tells S.world (tree_of self.old) (tree_of self.new) }
+        ensures files { CompactsFiles (as_begun result) S.tells S.world (tree_of self.old) (tree_of self.new) }
         ensures no_call { is_unsure self.old ≡ true → self.new.store ≡ self.old.store }
     {
         unless_doubted!(self, compact_choice(choice, options))
@@ -157,11 +168,11 @@ impl<S: Store> Logged<S> {
         &mut self,
         strategy: &dyn CompactionStrategy,
         watermark: SeqNo,
-    ) -> Result<Begun, Error>
-        ensures asks { Asks result self.old self.new (Compacts (may_choose strategy.now) (may_refuse strategy.now) (options_at watermark self.old.core) result self.old.core self.new.core) }
-        ensures acts { S.tells → CompactsAct watermark result (S.world self.old.store) (S.world self.new.store) self.old self.new }
+    ) -> Result<Option<Finished>, Error>
+        ensures asks { Asks (as_begun result) self.old self.new (Compacts (may_choose strategy.now) (may_refuse strategy.now) (options_at watermark self.old.core) (as_begun result) self.old.core self.new.core) }
+        ensures acts { S.tells → CompactsAct watermark (as_begun result) (S.world self.old.store) (S.world self.new.store) self.old self.new }
         ensures upholds { S.tells → Upholds (S.world self.old.store) (S.world self.new.store) self.old.core self.new.core }
-        ensures files { CompactsFiles result S.tells S.world (tree_of self.old) (tree_of self.new) }
+        ensures files { CompactsFiles (as_begun result) S.tells S.world (tree_of self.old) (tree_of self.new) }
         ensures no_call { is_unsure self.old ≡ true → self.new.store ≡ self.old.store }
     {
         unless_doubted!(self, compact(strategy, watermark))
@@ -176,11 +187,11 @@ impl<S: Store> Logged<S> {
         &mut self,
         strategy: &C,
         options: Options,
-    ) -> Result<Begun, Error>
-        ensures asks { Asks result self.old self.new (Compacts (C.may_choose strategy.now) (C.may_refuse strategy.now) options result self.old.core self.new.core) }
-        ensures acts { S.tells → CompactsAct options.mvcc_gc_watermark result (S.world self.old.store) (S.world self.new.store) self.old self.new }
+    ) -> Result<Option<Finished>, Error>
+        ensures asks { Asks (as_begun result) self.old self.new (Compacts (C.may_choose strategy.now) (C.may_refuse strategy.now) options (as_begun result) self.old.core self.new.core) }
+        ensures acts { S.tells → CompactsAct options.mvcc_gc_watermark (as_begun result) (S.world self.old.store) (S.world self.new.store) self.old self.new }
         ensures upholds { S.tells → Upholds (S.world self.old.store) (S.world self.new.store) self.old.core self.new.core }
-        ensures files { CompactsFiles result S.tells S.world (tree_of self.old) (tree_of self.new) }
+        ensures files { CompactsFiles (as_begun result) S.tells S.world (tree_of self.old) (tree_of self.new) }
         ensures no_call { is_unsure self.old ≡ true → self.new.store ≡ self.old.store }
     {
         unless_doubted!(self, compact_with(strategy, options))
@@ -191,12 +202,16 @@ impl<S: Store> Logged<S> {
     /// # Errors
     ///
     /// As that call, and `Unrecoverable` also where a record has unknown outcome.
-    pub fn major_compact(&mut self, target: u64, watermark: SeqNo) -> Result<Begun, Error>
-        ensures asks { Asks result self.old self.new (Compacts (major_choice target) only_memory (options_at watermark self.old.core) result self.old.core self.new.core) }
+    pub fn major_compact(
+        &mut self,
+        target: u64,
+        watermark: SeqNo,
+    ) -> Result<Option<Finished>, Error>
+        ensures asks { Asks (as_begun result) self.old self.new (Compacts (major_choice target) only_memory (options_at watermark self.old.core) (as_begun result) self.old.core self.new.core) }
         // As the theory sees it: an installed merge, or one of unknown outcome, else the mark of its watermark. Nothing is dropped.
-        ensures acts { S.tells → CompactsBy (IsMerging watermark) watermark result (S.world self.old.store) (S.world self.new.store) self.old self.new }
+        ensures acts { S.tells → CompactsBy (IsMerging watermark) watermark (as_begun result) (S.world self.old.store) (S.world self.new.store) self.old self.new }
         ensures upholds { S.tells → Upholds (S.world self.old.store) (S.world self.new.store) self.old.core self.new.core }
-        ensures files { CompactsFiles result S.tells S.world (tree_of self.old) (tree_of self.new) }
+        ensures files { CompactsFiles (as_begun result) S.tells S.world (tree_of self.old) (tree_of self.new) }
         ensures no_call { is_unsure self.old ≡ true → self.new.store ≡ self.old.store }
     {
         unless_doubted!(self, major_compact(target, watermark))
@@ -207,13 +222,13 @@ impl<S: Store> Logged<S> {
     /// # Errors
     ///
     /// As that call, and `Unrecoverable` also where a record has unknown outcome.
-    pub fn drop_range(&mut self, bounds: OwnedBounds) -> Result<Begun, Error>
-        ensures asks { Asks result self.old self.new (DropsRange bounds result self.old.core self.new.core) }
+    pub fn drop_range(&mut self, bounds: OwnedBounds) -> Result<Option<Finished>, Error>
+        ensures asks { Asks (as_begun result) self.old self.new (DropsRange bounds (as_begun result) self.old.core self.new.core) }
         // As the theory sees it: an installed drop of the tables within the bounds, or one of unknown outcome, else the mark
         // of its watermark.
-        ensures acts { S.tells → CompactsBy (DropsWithin bounds self.old.core) 0 result (S.world self.old.store) (S.world self.new.store) self.old self.new }
+        ensures acts { S.tells → CompactsBy (DropsWithin bounds self.old.core) 0 (as_begun result) (S.world self.old.store) (S.world self.new.store) self.old self.new }
         ensures upholds { S.tells → Upholds (S.world self.old.store) (S.world self.new.store) self.old.core self.new.core }
-        ensures files { CompactsFiles result S.tells S.world (tree_of self.old) (tree_of self.new) }
+        ensures files { CompactsFiles (as_begun result) S.tells S.world (tree_of self.old) (tree_of self.new) }
         ensures no_call { is_unsure self.old ≡ true → self.new.store ≡ self.old.store }
     {
         unless_doubted!(self, drop_range(bounds))

@@ -4,7 +4,7 @@ ghost use Rattle.lsm_below.specs.declared.value.InternalValue.{InternalValue};
 ghost use Rattle.lsm_below.specs.Entries.{Entry, entry_cmp, top};
 ghost use Rattle.lsm_below.specs.Sorted.{Rises};
 ghost use Rattle.lsm_memtable.specs.Memtables.{SeenMemtable, entry_size, new_memtable, with_entry, with_entries, highest_of, within, IsTop, HasNone};
-ghost use Rattle.lsm_memtable.specs.Blocks.{AreBlocksOf, CountsDigits};
+ghost use Rattle.lsm_memtable.specs.Blocks.{AreSoManyBlocks, CountsDigits};
 ghost use Rattle.lsm_memtable.specs.Contents.{content_of, entries_of, added, all_added, IsContent};
 ghost use Rattle.lsm_memtable.specs.Undo.{Undoes, AreUndone, undo_of};
 ghost use Rattle.lsm_memtable.specs.Revoking.{Reverts, TakesBack};
@@ -253,8 +253,8 @@ impl Memtable {
         self.get_counted(key, snapshot, &mut Steps::new())
     }
 
-    /// `get`, with a count of its steps: it counts at most as many comparisons of keys as the number of blocks, of 1 to
-    /// 64 entries each, that make up the entries has binary digits, and 8 more.
+    /// `get`, with a count of its steps: it tells in how many blocks, of 1 to 64 entries each, the entries stand, and counts at
+    /// most as many comparisons of keys as that number has binary digits, and 8 more.
     pub fn get_counted(
         &self,
         key: &[u8],
@@ -264,12 +264,15 @@ impl Memtable {
         ensures is { option_copied result ≡ top key.now snapshot self.now.entries }
         ensures greatest { IfSome result (λ e. IsTop self.now.entries key.now snapshot e.now) }
         ensures none { IfNone result (HasNone self.now.entries key.now snapshot) }
-        ensures compared { (blocks : List (List Entry)) × AreBlocksOf self.now.entries blocks × CountsDigits (length blocks) 8 steps.old.compared steps.new.compared }
+        ensures blocks { AreSoManyBlocks self.now.entries steps.new.blocks }
+        ensures compared { CountsDigits steps.new.blocks 8 steps.old.compared steps.new.compared }
         ensures moved { steps.new.moved ≡ steps.old.moved }
     {
         entries_are_parted();
         first_visible_is_top();
-        first_visible(&self.content.blocks, key, snapshot, steps)
+        let found = first_visible(&self.content.blocks, key, snapshot, steps);
+        steps.blocks = self.content.blocks.len() as u64;
+        found
     }
 
     /// The entries in order.
@@ -349,8 +352,9 @@ impl Memtable {
         self.insert_counted(item, &mut Steps::new())
     }
 
-    /// `insert`, with a count of its steps: it moves at most 64 entries that were there, also
-    /// where a block grows or is split; a refused one moves none.
+    /// `insert`, with a count of its steps: it tells in how many blocks the entries stood, compares at most as many keys as
+    /// `get_counted`, and moves at most 64 entries that were there, also where a block grows or is split; a refused one moves
+    /// none.
     pub fn insert_counted(
         &mut self,
         item: InternalValue,
@@ -361,13 +365,17 @@ impl Memtable {
         ensures id { self.new.id ≡ self.old.id }
         ensures err { OnErr result (self.new ≡ self.old) }
         ensures memory { IfErr result (λ e. e ≡ Error.OutOfMemory) }
-        ensures compared { (blocks : List (List Entry)) × AreBlocksOf self.old.entries blocks × CountsDigits (length blocks) 8 steps.old.compared steps.new.compared }
+        ensures blocks { AreSoManyBlocks self.old.entries steps.new.blocks }
+        ensures compared { CountsDigits steps.new.blocks 8 steps.old.compared steps.new.compared }
         ensures moved { steps.new.moved ≤ steps.old.moved + 64 }
         ensures unmoved { OnErr result (steps.new.moved ≡ steps.old.moved) }
     {
         let item = self.house(item);
         let added = size_of_entry(&item);
-        add_entry(&mut self.content, self.alloc, item, steps)?;
+        let blocks = self.content.blocks.len() as u64;
+        let put = add_entry(&mut self.content, self.alloc, item, steps);
+        steps.blocks = blocks;
+        put?;
         Ok((added, self.content.size))
     }
 

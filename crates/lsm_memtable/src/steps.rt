@@ -2,7 +2,8 @@
 ghost use Rattle.std.specs.Prelude.{◌≡◌, ◌+◌};
 ghost use Rattle.lsm_below.specs.Sums.{capped};
 
-/// How many keys were compared, and how many entries moved that were there. Each count stops at 2^64 - 1.
+/// How many keys were compared, and how many entries moved that were there, each up to 2^64 - 1, and in how many blocks the
+/// entries stood when the last call began that counts.
 ///
 /// # Examples
 ///
@@ -15,16 +16,18 @@ ghost use Rattle.lsm_below.specs.Sums.{capped};
 pub struct Steps {
     pub compared: u64,
     pub moved: u64,
+    pub blocks: u64,
 }
 
 impl Steps {
     /// Nothing counted yet.
     pub fn new() -> Steps
-        ensures { result ≡ record { compared = 0; moved = 0 } }
+        ensures { result ≡ record { compared = 0; moved = 0; blocks = 0 } }
     {
         Steps {
             compared: 0,
             moved: 0,
+            blocks: 0,
         }
     }
 

@@ -23,7 +23,7 @@ mod writes;
 
 pub use finding::{TreeFiles, any_number_of_lives, openings_are_lives, runs_are_lives};
 pub use life::live;
-pub use replies::{of_begun, of_finished};
+pub use replies::{of_begun, of_done, of_finished};
 pub use runner::run;
 pub use slots::{Job, Slot, Slots, make_room};
 pub use steps::{Compacted, Count, Counter, JobStep, Outcome, Reply, Step, Taken};

@@ -1,5 +1,6 @@
 // What is replied of a compaction.
 ghost use Rattle.std.specs.Prelude.{◌≡◌};
+ghost use Rattle.lsm_state.specs.WholeCompactions.{as_begun};
 ghost use Rattle.lsm_runs.specs.Compacting.{reply_of, job_of, end_reply_of};
 
 use crate::slots::Job;
@@ -19,12 +20,24 @@ pub fn of_begun(begun: Result<Begun, Error>) -> (Reply, Option<Job>)
         Ok(Begun::Job(job)) => {
             return (
                 Reply::Compacted(Compacted::Waits),
-                Some(Job::Compaction(job)),
+                Some(Job::Compaction(job.keep())),
             );
         }
         Err(error) => return (Reply::Refused(error), None),
     };
     (Reply::Compacted(compacted), None)
+}
+
+/// What is replied of a compaction in one call.
+pub fn of_done(done: Result<Option<Finished>, Error>) -> Reply
+    ensures { result ≡ reply_of (as_begun done) }
+{
+    match done {
+        Ok(None) => Reply::Compacted(Compacted::DidNothing),
+        Ok(Some(Finished::Declined(why))) => Reply::Compacted(Compacted::Declined(why)),
+        Ok(Some(Finished::Installed)) => Reply::Compacted(Compacted::Installed),
+        Err(error) => Reply::Refused(error),
+    }
 }
 
 /// What is replied of the end of a merge.

@@ -4,8 +4,8 @@ ghost use Rattle.std.specs.Ordering.{nat_cmp};
 ghost use Rattle.std.specs.BTreeMap.{get};
 ghost use Rattle.lsm_runs.specs.Slots.{SameJobs};
 
-use lsm_compaction::{CompactionJob, MergedCompaction};
-use lsm_flush::{FlushJob, MergedFlush, WrittenFlush};
+use lsm_compaction::{KeptCompacted, KeptCompaction};
+use lsm_flush::{KeptFlush, KeptMerged, KeptWritten};
 use std::alloc::AllocError;
 use std::collections::BTreeMap;
 
@@ -16,15 +16,15 @@ pub type Slot = u64;
 #[derive(Drop)]
 pub enum Job {
     /// A flush that was begun.
-    Begun(FlushJob),
+    Begun(KeptFlush),
     /// One that was merged.
-    Merged(MergedFlush),
+    Merged(KeptMerged),
     /// One whose tables are written.
-    Written(WrittenFlush),
+    Written(KeptWritten),
     /// A merge that was begun.
-    Compaction(CompactionJob),
+    Compaction(KeptCompaction),
     /// One that was done.
-    Compacted(MergedCompaction),
+    Compacted(KeptCompacted),
 }
 
 /// Jobs by slot. None stands in a slot that is free again.

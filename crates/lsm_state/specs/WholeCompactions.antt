@@ -1,5 +1,5 @@
 -- A compaction in one call: begun, and a merge then done and finished.
-use Rattle.std.specs.Prelude.{◌≡◌, ◌⊎◌, ℕ, None, IsSome, Result, Ok, Err, true, false}
+use Rattle.std.specs.Prelude.{◌≡◌, ◌⊎◌, ℕ, Option, None, Some, IsSome, Result, Ok, Err, true, false}
 use Rattle.lsm_below.specs.declared.error.Error.{Error}
 use Rattle.lsm_below.specs.declared.error.Error.TheVariants.{OutOfMemory, Unrecoverable}
 use Rattle.lsm_compaction.specs.Merges.{SeenCompaction}
@@ -25,6 +25,12 @@ abbrev pub told_end : Result Finished Error → Result Begun Error
 told_end (Ok Done) = Ok Installed
 told_end (Ok (Over why)) = Ok (Declined why)
 told_end (Err e) = Err e
+
+-- what a compaction in one call answers, as its beginning would tell it: it is never a job
+abbrev pub as_begun : Result (Option Finished) Error → Result Begun Error
+as_begun (Ok None) = Ok DidNothing
+as_begun (Ok (Some end)) = told_end (Ok end)
+as_begun (Err e) = Err e
 
 -- an open merge is done and finished, with its deeds, or given up where there was no memory to do it
 abbrev pub Completes : SeenCompaction → Result Begun Error → Core → Core → Type 0

@@ -42,7 +42,6 @@ impl Options {
 ///     done => return Ok(done),
 /// }
 /// ```
-#[derive(Drop)]
 pub enum Begun {
     /// Nothing is to be done.
     DidNothing,
@@ -50,8 +49,7 @@ pub enum Begun {
     Declined(Why),
     /// A move or a drop was installed.
     Installed,
-    /// A merge is open; its job is to be run, and then finished or abandoned. Nothing is written for it before. A job that is
-    /// only dropped leaves its tables in use, so that no compaction takes them, until the tree is opened again.
+    /// A merge is open; its job is to be run, and then finished or abandoned. Nothing is written for it before.
     Job(CompactionJob),
 }
 

@@ -49,8 +49,7 @@ fn with_tables(flush: Option<OpenFlush>, number: u64, tables: Vec<Table>) -> Opt
 
 impl<S: Store> TreeState<S> {
     /// Opens a flush of all sealed memtables: None where nothing is sealed. The job shares the memtables, and copies
-    /// nothing of them. A job that is only dropped, and neither registered nor given up, leaves the flush open until the tree
-    /// is opened again.
+    /// nothing of them. The flush is open until the job is registered or given up.
     ///
     /// # Errors
     ///
@@ -170,6 +169,7 @@ impl<S: Store> TreeState<S> {
         ensures deeds { IsNoDeed self.old.core self.new.core }
     {
         self.close_flush(job.number());
+        drop(job.keep());
     }
 
     /// The flush of the job with this number is no longer open.

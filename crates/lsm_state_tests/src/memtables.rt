@@ -172,30 +172,31 @@ fn moves_few(table: &mut Memtable, count: SeqNo) -> bool {
     true
 }
 
-/// Whether a look-up at each snapshot finds the entry below it with at most so many comparisons.
-fn compares_few(table: &Memtable, count: SeqNo, most: u64) -> bool {
+/// Whether a look-up at each snapshot finds the entry below it with at most so many comparisons, among so many blocks.
+fn compares_few(table: &Memtable, count: SeqNo, most: u64, blocks: u64) -> bool {
     for seqno in 0..count {
         let mut steps = Steps::new();
         let found = table.get_counted(b"a", seqno.saturating_add(1), &mut steps);
-        if number(found) != Some(seqno) || steps.compared > most {
+        if number(found) != Some(seqno) || steps.compared > most || steps.blocks > blocks {
             return false;
         }
     }
     true
 }
 
-// 200 entries stand in at most 6 blocks, and 6 has three binary digits.
+// A full block of 64 is cut in halves, so 200 entries stand in at most 6 blocks, and 6 has three binary digits.
 #[test]
 fn takes_few_steps(rt: HostRuntime) {
     let mut table = Memtable::new(rt.alloc(), 0);
-    assert!(rt; compares_few(&table, 0, 8));
+    assert!(rt; compares_few(&table, 0, 8, 0));
     assert!(rt; moves_few(&mut table, 200));
-    assert!(rt; compares_few(&table, 200, 11) && table.len() == 200);
+    assert!(rt; compares_few(&table, 200, 11, 6) && table.len() == 200);
     drop(table);
     // Counts stop at the greatest number.
     let mut steps = Steps {
         compared: u64::MAX,
         moved: u64::MAX - 1,
+        blocks: 0,
     };
     steps.tick_compared();
     steps.tick_moved();

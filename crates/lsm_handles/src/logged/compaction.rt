@@ -1,11 +1,11 @@
 // The calls of a compaction, of a logged tree behind the lock.
 ghost use Rattle.std.specs.Prelude.{◌≡◌, Err, IfOk, IfErr};
-ghost use Rattle.lsm_state.specs.Compactions.{BeginsChoice, BeginsCompaction, Finishes, Spends};
-ghost use Rattle.lsm_state.specs.WholeCompactions.{CompactsChoice, Compacts, DropsRange, options_at, only_memory, major_choice};
-ghost use Rattle.lsm_logged.specs.Asking.{Asks};
+ghost use Rattle.lsm_state.specs.Compactions.{BeginsChoice, BeginsCompaction, Spends};
+ghost use Rattle.lsm_state.specs.WholeCompactions.{as_begun, CompactsChoice, Compacts, DropsRange, options_at, only_memory, major_choice};
+ghost use Rattle.lsm_logged.specs.Asking.{Asks, FinishesLogged};
 ghost use Rattle.lsm_state.specs.Files.{BeginsFiles, CompactsFiles, FinishesFiles};
 ghost use Rattle.lsm_handles.specs.Shared.{OnSomeLogged, TouchesTreeAlone, OnSomeLoggedFiles};
-ghost use Rattle.lsm_handles.specs.Gates.{IsNoJob, EndsGatedLogged, CompactsGatedLogged};
+ghost use Rattle.lsm_handles.specs.Gates.{EndsGatedLogged, CompactsGatedLogged};
 
 use crate::gate::{Gate, follow, told_end};
 use crate::handle::Handle;
@@ -64,7 +64,7 @@ impl<S: Store> Handle<Logged<S>> {
         rt: &impl Wait,
         merged: MergedCompaction,
     ) -> Result<Finished, Error>
-        ensures { OnSomeLoggedFiles S.tells S.world (FinishesFiles result) (λ old new. Asks result old new (Finishes merged.job result old.core new.core)) }
+        ensures { OnSomeLoggedFiles S.tells S.world (FinishesFiles result) (λ old new. FinishesLogged merged.job result old new) }
     {
         act!(self, rt, |tree| tree.finish_compaction(merged))
     }
@@ -83,8 +83,8 @@ impl<S: Store> Handle<Logged<S>> {
         rt: &impl Wait,
         strategy: &dyn CompactionStrategy,
         watermark: SeqNo,
-    ) -> Result<Begun, Error>
-        ensures { OnSomeLoggedFiles S.tells S.world (CompactsFiles result) (λ old new. Asks result old new (Compacts (may_choose strategy.now) (may_refuse strategy.now) (options_at watermark old.core) result old.core new.core)) }
+    ) -> Result<Option<Finished>, Error>
+        ensures { OnSomeLoggedFiles S.tells S.world (CompactsFiles (as_begun result)) (λ old new. Asks (as_begun result) old new (Compacts (may_choose strategy.now) (may_refuse strategy.now) (options_at watermark old.core) (as_begun result) old.core new.core)) }
     {
         act!(self, rt, |tree| tree.compact(strategy, watermark))
     }
@@ -95,8 +95,8 @@ impl<S: Store> Handle<Logged<S>> {
         rt: &impl Wait,
         strategy: &C,
         options: Options,
-    ) -> Result<Begun, Error>
-        ensures { OnSomeLoggedFiles S.tells S.world (CompactsFiles result) (λ old new. Asks result old new (Compacts (C.may_choose strategy.now) (C.may_refuse strategy.now) options result old.core new.core)) }
+    ) -> Result<Option<Finished>, Error>
+        ensures { OnSomeLoggedFiles S.tells S.world (CompactsFiles (as_begun result)) (λ old new. Asks (as_begun result) old new (Compacts (C.may_choose strategy.now) (C.may_refuse strategy.now) options (as_begun result) old.core new.core)) }
     {
         act!(self, rt, |tree| tree.compact_with(strategy, options))
     }
@@ -107,8 +107,8 @@ impl<S: Store> Handle<Logged<S>> {
         rt: &impl Wait,
         choice: Choice,
         options: Options,
-    ) -> Result<Begun, Error>
-        ensures { OnSomeLoggedFiles S.tells S.world (CompactsFiles result) (λ old new. Asks result old new (CompactsChoice choice options result old.core new.core)) }
+    ) -> Result<Option<Finished>, Error>
+        ensures { OnSomeLoggedFiles S.tells S.world (CompactsFiles (as_begun result)) (λ old new. Asks (as_begun result) old new (CompactsChoice choice options (as_begun result) old.core new.core)) }
     {
         act!(self, rt, |tree| tree.compact_choice(choice, options))
     }
@@ -133,11 +133,10 @@ impl<S: Store> Handle<Logged<S>> {
         &self,
         rt: &impl Wait,
         passed: Result<MergedCompaction, (Error, CompactionJob)>,
-    ) -> Result<Begun, Error>
+    ) -> Result<Option<Finished>, Error>
         requires { IfErr passed (λ e. e.0 ≡ Error.OutOfMemory) }
-        ensures done { IfOk passed (λ m. EndsGatedLogged S.tells S.world m.job result) }
-        ensures back { IfErr passed (λ e. EndsGatedLogged S.tells S.world e.1 result) }
-        ensures no_job { IsNoJob result }
+        ensures done { IfOk passed (λ m. EndsGatedLogged S.tells S.world m.job (as_begun result)) }
+        ensures back { IfErr passed (λ e. EndsGatedLogged S.tells S.world e.1 (as_begun result)) }
     {
         match passed {
             Ok(merged) => told_end(self.finish_compaction(rt, merged)),
@@ -149,7 +148,7 @@ impl<S: Store> Handle<Logged<S>> {
     }
 
     /// Compacts as a strategy chooses, at a watermark and at the tree's moment, and has a gate do the merge where there is one, as
-    /// `Tree::compact_gated`: the gate is handed the job while no lock is held. The answer is never `Begun::Job`.
+    /// `Tree::compact_gated`: the gate is handed the job while no lock is held. Answers None where nothing is to be done.
     ///
     /// # Errors
     ///
@@ -161,9 +160,8 @@ impl<S: Store> Handle<Logged<S>> {
         strategy: &dyn CompactionStrategy,
         watermark: SeqNo,
         gate: &impl Gate,
-    ) -> Result<Begun, Error>
-        ensures gated { CompactsGatedLogged S.tells S.world (may_choose strategy.now) (may_refuse strategy.now) watermark result }
-        ensures no_job { IsNoJob result }
+    ) -> Result<Option<Finished>, Error>
+        ensures gated { CompactsGatedLogged S.tells S.world (may_choose strategy.now) (may_refuse strategy.now) watermark (as_begun result) }
     {
         let begun = self.begin_at(rt, strategy, watermark);
         follow!(begun, |job| self.end_gated(rt, gate.pass(job)))
@@ -175,15 +173,15 @@ impl<S: Store> Handle<Logged<S>> {
         rt: &impl Wait,
         target: u64,
         watermark: SeqNo,
-    ) -> Result<Begun, Error>
-        ensures { OnSomeLoggedFiles S.tells S.world (CompactsFiles result) (λ old new. Asks result old new (Compacts (major_choice target) only_memory (options_at watermark old.core) result old.core new.core)) }
+    ) -> Result<Option<Finished>, Error>
+        ensures { OnSomeLoggedFiles S.tells S.world (CompactsFiles (as_begun result)) (λ old new. Asks (as_begun result) old new (Compacts (major_choice target) only_memory (options_at watermark old.core) (as_begun result) old.core new.core)) }
     {
         act!(self, rt, |tree| tree.major_compact(target, watermark))
     }
 
     /// Drops the tables that lie within bounds, as `Logged::drop_range`.
-    pub fn drop_range(&self, rt: &impl Wait, bounds: OwnedBounds) -> Result<Begun, Error>
-        ensures { OnSomeLoggedFiles S.tells S.world (CompactsFiles result) (λ old new. Asks result old new (DropsRange bounds result old.core new.core)) }
+    pub fn drop_range(&self, rt: &impl Wait, bounds: OwnedBounds) -> Result<Option<Finished>, Error>
+        ensures { OnSomeLoggedFiles S.tells S.world (CompactsFiles (as_begun result)) (λ old new. Asks (as_begun result) old new (DropsRange bounds (as_begun result) old.core new.core)) }
     {
         act!(self, rt, |tree| tree.drop_range(bounds))
     }

@@ -1,12 +1,12 @@
 // The calls of a compaction, of a tree with its journal behind the lock.
 ghost use Rattle.std.specs.Prelude.{◌≡◌, ◌⊎◌, Err, IfOk, IfErr};
 ghost use Rattle.lsm_state.specs.Compactions.{Spends};
-ghost use Rattle.lsm_state.specs.WholeCompactions.{options_at, only_memory, major_choice};
+ghost use Rattle.lsm_state.specs.WholeCompactions.{as_begun, options_at, only_memory, major_choice};
 ghost use Rattle.lsm_recorded.specs.Flushing.{SpendsUnnoted};
 ghost use Rattle.lsm_recorded.specs.Compacting.{BeginsRecorded, FinishesRecorded, CompactsRecorded, DropsRecorded};
 ghost use Rattle.lsm_state.specs.Files.{BeginsFiles, CompactsFiles, FinishesFiles};
 ghost use Rattle.lsm_handles.specs.Shared.{OnSomeTreeAlone, OnSomeRecordedFiles};
-ghost use Rattle.lsm_handles.specs.Gates.{IsNoJob, EndsGatedRecorded, CompactsGatedRecorded};
+ghost use Rattle.lsm_handles.specs.Gates.{EndsGatedRecorded, CompactsGatedRecorded};
 
 use crate::gate::{Gate, follow, told_end};
 use crate::handle::Handle;
@@ -67,8 +67,8 @@ impl<S: Store> Handle<Recorded<S>> {
         pass: &mut Pass,
         strategy: &dyn CompactionStrategy,
         options: Options,
-    ) -> Result<Begun, Error>
-        ensures { OnSomeRecordedFiles S.tells S.world (CompactsFiles result) (λ old new. CompactsRecorded (may_choose strategy.now) (may_refuse strategy.now) options result old new pass.old pass.new) }
+    ) -> Result<Option<Finished>, Error>
+        ensures { OnSomeRecordedFiles S.tells S.world (CompactsFiles (as_begun result)) (λ old new. CompactsRecorded (may_choose strategy.now) (may_refuse strategy.now) options (as_begun result) old new pass.old pass.new) }
     {
         act!(self, rt, |tree| tree.do_compaction(pass, strategy, options))
     }
@@ -80,8 +80,8 @@ impl<S: Store> Handle<Recorded<S>> {
         pass: &mut Pass,
         strategy: &dyn CompactionStrategy,
         watermark: SeqNo,
-    ) -> Result<Begun, Error>
-        ensures { OnSomeRecordedFiles S.tells S.world (CompactsFiles result) (λ old new. CompactsRecorded (may_choose strategy.now) (may_refuse strategy.now) (options_at watermark old.tree.core) result old new pass.old pass.new) }
+    ) -> Result<Option<Finished>, Error>
+        ensures { OnSomeRecordedFiles S.tells S.world (CompactsFiles (as_begun result)) (λ old new. CompactsRecorded (may_choose strategy.now) (may_refuse strategy.now) (options_at watermark old.tree.core) (as_begun result) old new pass.old pass.new) }
     {
         act!(self, rt, |tree| tree.compact(pass, strategy, watermark))
     }
@@ -108,11 +108,10 @@ impl<S: Store> Handle<Recorded<S>> {
         rt: &impl Wait,
         pass: &mut Pass,
         passed: Result<MergedCompaction, (Error, CompactionJob)>,
-    ) -> Result<Begun, Error>
+    ) -> Result<Option<Finished>, Error>
         requires { IfErr passed (λ e. e.0 ≡ Error.OutOfMemory) }
-        ensures done { IfOk passed (λ m. EndsGatedRecorded S.tells S.world m.job result pass.old pass.new) }
-        ensures back { IfErr passed (λ e. EndsGatedRecorded S.tells S.world e.1 result pass.old pass.new) }
-        ensures no_job { IsNoJob result }
+        ensures done { IfOk passed (λ m. EndsGatedRecorded S.tells S.world m.job (as_begun result) pass.old pass.new) }
+        ensures back { IfErr passed (λ e. EndsGatedRecorded S.tells S.world e.1 (as_begun result) pass.old pass.new) }
     {
         match passed {
             Ok(merged) => told_end(self.finish_compaction(rt, pass, merged)),
@@ -125,7 +124,7 @@ impl<S: Store> Handle<Recorded<S>> {
 
     /// Compacts as a strategy chooses, and has a gate do the merge where there is one, as `Tree::compact_gated`: the gate is
     /// handed the job while no lock is held. The pass gets the mark as the compaction begins, and what is installed where it
-    /// is: after a merge, the entries of other callers may stand in between. The answer is never `Begun::Job`.
+    /// is: after a merge, the entries of other callers may stand in between. Answers None where nothing is to be done.
     ///
     /// # Errors
     ///
@@ -138,9 +137,8 @@ impl<S: Store> Handle<Recorded<S>> {
         strategy: &dyn CompactionStrategy,
         watermark: SeqNo,
         gate: &impl Gate,
-    ) -> Result<Begun, Error>
-        ensures gated { CompactsGatedRecorded S.tells S.world (may_choose strategy.now) (may_refuse strategy.now) watermark result pass.old pass.new }
-        ensures no_job { IsNoJob result }
+    ) -> Result<Option<Finished>, Error>
+        ensures gated { CompactsGatedRecorded S.tells S.world (may_choose strategy.now) (may_refuse strategy.now) watermark (as_begun result) pass.old pass.new }
     {
         let begun = self.begin_at(rt, pass, strategy, watermark);
         follow!(begun, |job| self.end_gated(rt, pass, gate.pass(job)))
@@ -153,8 +151,8 @@ impl<S: Store> Handle<Recorded<S>> {
         pass: &mut Pass,
         target: u64,
         watermark: SeqNo,
-    ) -> Result<Begun, Error>
-        ensures { OnSomeRecordedFiles S.tells S.world (CompactsFiles result) (λ old new. CompactsRecorded (major_choice target) only_memory (options_at watermark old.tree.core) result old new pass.old pass.new) }
+    ) -> Result<Option<Finished>, Error>
+        ensures { OnSomeRecordedFiles S.tells S.world (CompactsFiles (as_begun result)) (λ old new. CompactsRecorded (major_choice target) only_memory (options_at watermark old.tree.core) (as_begun result) old new pass.old pass.new) }
     {
         act!(self, rt, |tree| tree.major_compact(pass, target, watermark))
     }
@@ -165,8 +163,8 @@ impl<S: Store> Handle<Recorded<S>> {
         rt: &impl Wait,
         pass: &mut Pass,
         bounds: OwnedBounds,
-    ) -> Result<Begun, Error>
-        ensures { OnSomeRecordedFiles S.tells S.world (CompactsFiles result) (λ old new. DropsRecorded bounds result old new pass.old pass.new) }
+    ) -> Result<Option<Finished>, Error>
+        ensures { OnSomeRecordedFiles S.tells S.world (CompactsFiles (as_begun result)) (λ old new. DropsRecorded bounds (as_begun result) old new pass.old pass.new) }
     {
         act!(self, rt, |tree| tree.drop_range(pass, bounds))
     }

@@ -1,10 +1,10 @@
 // The calls of a compaction, of a tree behind the lock.
 ghost use Rattle.std.specs.Prelude.{◌≡◌, Err, IfOk, IfErr};
 ghost use Rattle.lsm_state.specs.Compactions.{BeginsChoice, BeginsCompaction, Finishes, Spends};
-ghost use Rattle.lsm_state.specs.WholeCompactions.{Compacts, DropsRange, options_at, only_memory, major_choice};
+ghost use Rattle.lsm_state.specs.WholeCompactions.{as_begun, Compacts, DropsRange, options_at, only_memory, major_choice};
 ghost use Rattle.lsm_state.specs.Files.{BeginsFiles, CompactsFiles, FinishesFiles};
 ghost use Rattle.lsm_handles.specs.Shared.{OnSomeTreeAlone, OnSomeTreeFiles};
-ghost use Rattle.lsm_handles.specs.Gates.{IsNoJob, EndsGated, CompactsGated};
+ghost use Rattle.lsm_handles.specs.Gates.{EndsGated, CompactsGated};
 
 use crate::gate::{Gate, follow, told_end};
 use crate::handle::Handle;
@@ -79,8 +79,8 @@ impl<S: Store> Handle<TreeState<S>> {
         rt: &impl Wait,
         strategy: &dyn CompactionStrategy,
         options: Options,
-    ) -> Result<Begun, Error>
-        ensures { OnSomeTreeFiles S.tells S.world (CompactsFiles result) (λ old new. Compacts (may_choose strategy.now) (may_refuse strategy.now) options result old new) }
+    ) -> Result<Option<Finished>, Error>
+        ensures { OnSomeTreeFiles S.tells S.world (CompactsFiles (as_begun result)) (λ old new. Compacts (may_choose strategy.now) (may_refuse strategy.now) options (as_begun result) old new) }
     {
         act!(self, rt, |tree| do_compaction(tree, strategy, options))
     }
@@ -91,8 +91,8 @@ impl<S: Store> Handle<TreeState<S>> {
         rt: &impl Wait,
         strategy: &dyn CompactionStrategy,
         watermark: SeqNo,
-    ) -> Result<Begun, Error>
-        ensures { OnSomeTreeFiles S.tells S.world (CompactsFiles result) (λ old new. Compacts (may_choose strategy.now) (may_refuse strategy.now) (options_at watermark old) result old new) }
+    ) -> Result<Option<Finished>, Error>
+        ensures { OnSomeTreeFiles S.tells S.world (CompactsFiles (as_begun result)) (λ old new. Compacts (may_choose strategy.now) (may_refuse strategy.now) (options_at watermark old) (as_begun result) old new) }
     {
         act!(self, rt, |tree| tree.compact(strategy, watermark))
     }
@@ -117,11 +117,10 @@ impl<S: Store> Handle<TreeState<S>> {
         &self,
         rt: &impl Wait,
         passed: Result<MergedCompaction, (Error, CompactionJob)>,
-    ) -> Result<Begun, Error>
+    ) -> Result<Option<Finished>, Error>
         requires { IfErr passed (λ e. e.0 ≡ Error.OutOfMemory) }
-        ensures done { IfOk passed (λ m. EndsGated S.tells S.world m.job result) }
-        ensures back { IfErr passed (λ e. EndsGated S.tells S.world e.1 result) }
-        ensures no_job { IsNoJob result }
+        ensures done { IfOk passed (λ m. EndsGated S.tells S.world m.job (as_begun result)) }
+        ensures back { IfErr passed (λ e. EndsGated S.tells S.world e.1 (as_begun result)) }
     {
         match passed {
             Ok(merged) => told_end(self.finish_compaction(rt, merged)),
@@ -135,7 +134,7 @@ impl<S: Store> Handle<TreeState<S>> {
     /// Compacts as a strategy chooses, at a watermark and at the tree's moment, and has a gate do the merge where there is one.
     /// The strategy is asked under the lock, where a move or a drop is installed; the gate is handed the job while no lock is
     /// held; the end of the merge is checked and installed under the lock again. Other callers may come in between, and what
-    /// they did may decline the merge. The answer is never `Begun::Job`.
+    /// they did may decline the merge. Answers None where nothing is to be done.
     ///
     /// # Examples
     ///
@@ -153,9 +152,8 @@ impl<S: Store> Handle<TreeState<S>> {
         strategy: &dyn CompactionStrategy,
         watermark: SeqNo,
         gate: &impl Gate,
-    ) -> Result<Begun, Error>
-        ensures gated { CompactsGated S.tells S.world (may_choose strategy.now) (may_refuse strategy.now) watermark result }
-        ensures no_job { IsNoJob result }
+    ) -> Result<Option<Finished>, Error>
+        ensures gated { CompactsGated S.tells S.world (may_choose strategy.now) (may_refuse strategy.now) watermark (as_begun result) }
     {
         let begun = self.begin_at(rt, strategy, watermark);
         follow!(begun, |job| self.end_gated(rt, gate.pass(job)))
@@ -167,15 +165,15 @@ impl<S: Store> Handle<TreeState<S>> {
         rt: &impl Wait,
         target: u64,
         watermark: SeqNo,
-    ) -> Result<Begun, Error>
-        ensures { OnSomeTreeFiles S.tells S.world (CompactsFiles result) (λ old new. Compacts (major_choice target) only_memory (options_at watermark old) result old new) }
+    ) -> Result<Option<Finished>, Error>
+        ensures { OnSomeTreeFiles S.tells S.world (CompactsFiles (as_begun result)) (λ old new. Compacts (major_choice target) only_memory (options_at watermark old) (as_begun result) old new) }
     {
         act!(self, rt, |tree| tree.major_compact(target, watermark))
     }
 
     /// Drops the tables that lie within bounds, as `TreeState::drop_range`.
-    pub fn drop_range(&self, rt: &impl Wait, bounds: OwnedBounds) -> Result<Begun, Error>
-        ensures { OnSomeTreeFiles S.tells S.world (CompactsFiles result) (λ old new. DropsRange bounds result old new) }
+    pub fn drop_range(&self, rt: &impl Wait, bounds: OwnedBounds) -> Result<Option<Finished>, Error>
+        ensures { OnSomeTreeFiles S.tells S.world (CompactsFiles (as_begun result)) (λ old new. DropsRange bounds (as_begun result) old new) }
     {
         act!(self, rt, |tree| tree.drop_range(bounds))
     }

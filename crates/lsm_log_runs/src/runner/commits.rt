@@ -2,9 +2,9 @@
 ghost use Rattle.std.specs.Prelude.{◌≡◌, IfOk, OnErr};
 ghost use Rattle.lsm_commit.specs.Causes.{HasCause, Blames};
 ghost use Rattle.lsm_runs.specs.Causes.{ReplyBlames};
-ghost use Rattle.lsm_runs.specs.Compacting.{reply_of, strategies_of};
+ghost use Rattle.lsm_runs.specs.Compacting.{strategies_of};
 ghost use Rattle.lsm_runs.specs.Files.{StaysStored};
-ghost use Rattle.lsm_state.specs.WholeCompactions.{Compacts, DropsRange, options_at, only_memory, major_choice};
+ghost use Rattle.lsm_state.specs.WholeCompactions.{as_begun, Compacts, DropsRange, options_at, only_memory, major_choice};
 ghost use Rattle.lsm_logged.specs.Acting.{ActsNot, IsMerging, DropsWithin, CompactsAct};
 ghost use Rattle.lsm_logged.specs.Asking.{Asks};
 ghost use Rattle.lsm_log_runs.specs.Doing.{ActsRotate, ActsFlush, ActsFlushActive, ActsCompaction, ActsCompact, ActsClear};
@@ -14,8 +14,8 @@ use lsm_below::{Error, SeqNo, UserKey};
 use lsm_journal::copy_bound;
 use lsm_logged::Logged;
 use lsm_pick::{CompactionStrategy, OwnedBounds};
-use lsm_runs::Reply;
-use lsm_state::Begun;
+use lsm_runs::{Reply, of_done};
+use lsm_state::Finished;
 use lsm_store::Store;
 use std::alloc::AllocError;
 use std::ops::Bound;
@@ -82,24 +82,16 @@ pub(super) fn set_moment<S: Store>(tree: &mut Logged<S>, moment: u64) -> Reply
 
 // ---- compactions
 
-/// What is replied of a compaction in one call.
-fn of_begun(begun: Result<Begun, Error>) -> Reply
-    ensures { result ≡ reply_of begun }
-{
-    let (reply, _) = lsm_runs::of_begun(begun);
-    reply
-}
-
 /// Compacts as a strategy in a box chooses.
 fn compact_boxed<S: Store>(
     tree: &mut Logged<S>,
     strategy: &Box<dyn CompactionStrategy>,
     watermark: SeqNo,
-) -> Result<Begun, Error>
-    ensures asks { Asks result tree.old tree.new (Compacts (may_choose strategy.now) (may_refuse strategy.now) (options_at watermark tree.old.core) result tree.old.core tree.new.core) }
-    ensures acts { S.tells → CompactsAct watermark result (S.world tree.old.store) (S.world tree.new.store) tree.old tree.new }
+) -> Result<Option<Finished>, Error>
+    ensures asks { Asks (as_begun result) tree.old tree.new (Compacts (may_choose strategy.now) (may_refuse strategy.now) (options_at watermark tree.old.core) (as_begun result) tree.old.core tree.new.core) }
+    ensures acts { S.tells → CompactsAct watermark (as_begun result) (S.world tree.old.store) (S.world tree.new.store) tree.old tree.new }
     ensures stored { S.tells → StaysStored (S.world tree.old.store) (S.world tree.new.store) tree.old.core tree.new.core }
-    ensures causes { HasCause (Blames result) (S.world tree.old.store) (S.world tree.new.store) }
+    ensures causes { HasCause (Blames (as_begun result)) (S.world tree.old.store) (S.world tree.new.store) }
 {
     tree.compact(&**strategy, watermark)
 }
@@ -118,7 +110,7 @@ pub(super) fn compact<S: Store>(
     let Some(strategy) = strategies.get(at) else {
         return Reply::NoStrategy;
     };
-    of_begun(compact_boxed(tree, strategy, watermark))
+    of_done(compact_boxed(tree, strategy, watermark))
 }
 
 pub(super) fn major_compact<S: Store>(tree: &mut Logged<S>, target: u64, watermark: SeqNo) -> Reply
@@ -127,7 +119,7 @@ pub(super) fn major_compact<S: Store>(tree: &mut Logged<S>, target: u64, waterma
     ensures stored { S.tells → StaysStored (S.world tree.old.store) (S.world tree.new.store) tree.old.core tree.new.core }
     ensures causes { HasCause (ReplyBlames result) (S.world tree.old.store) (S.world tree.new.store) }
 {
-    of_begun(tree.major_compact(target, watermark))
+    of_done(tree.major_compact(target, watermark))
 }
 
 pub(super) fn drop_range<S: Store>(
@@ -145,5 +137,5 @@ pub(super) fn drop_range<S: Store>(
         start: copy_bound(low)?,
         end: copy_bound(high)?,
     };
-    Ok(of_begun(tree.drop_range(bounds)))
+    Ok(of_done(tree.drop_range(bounds)))
 }

@@ -22,7 +22,7 @@ pub(super) fn begin_flush<S: Store>(tree: &mut Logged<S>, place: &mut Option<Job
     }
     match tree.begin_flush() {
         Ok(Some(job)) => {
-            *place = Some(Job::Begun(job));
+            *place = Some(Job::Begun(job.keep()));
             Reply::Begun(true)
         }
         Ok(None) => Reply::Begun(false),
@@ -38,7 +38,7 @@ pub(super) fn run_flush<S: Store>(
     ensures { TakesRun watermark result [] place.old place.new tree.now.core tree.now.core }
 {
     let job = match place.take() {
-        Some(Job::Begun(job)) => job,
+        Some(Job::Begun(job)) => job.into_job(),
         other => {
             *place = other;
             return Reply::NoJob;
@@ -46,11 +46,11 @@ pub(super) fn run_flush<S: Store>(
     };
     match job.run(watermark) {
         Ok(merged) => {
-            *place = Some(Job::Merged(merged));
+            *place = Some(Job::Merged(merged.keep()));
             Reply::Done
         }
         Err((error, job)) => {
-            *place = Some(Job::Begun(job));
+            *place = Some(Job::Begun(job.keep()));
             Reply::Refused(error)
         }
     }
@@ -63,7 +63,7 @@ pub(super) fn flush_to_tables<S: Store>(tree: &mut Logged<S>, place: &mut Option
     ensures causes { HasCause (ReplyBlames result) (S.world tree.old.store) (S.world tree.new.store) }
 {
     let job = match place.take() {
-        Some(Job::Merged(job)) => job,
+        Some(Job::Merged(job)) => job.into_job(),
         other => {
             *place = other;
             return Reply::NoJob;
@@ -71,11 +71,11 @@ pub(super) fn flush_to_tables<S: Store>(tree: &mut Logged<S>, place: &mut Option
     };
     match tree.flush_to_tables(job) {
         Ok(written) => {
-            *place = Some(Job::Written(written));
+            *place = Some(Job::Written(written.keep()));
             Reply::Done
         }
         Err((error, job)) => {
-            *place = Some(Job::Merged(job));
+            *place = Some(Job::Merged(job.keep()));
             Reply::Refused(error)
         }
     }
@@ -88,7 +88,7 @@ pub(super) fn register_tables<S: Store>(tree: &mut Logged<S>, place: &mut Option
     ensures causes { HasCause (ReplyBlames result) (S.world tree.old.store) (S.world tree.new.store) }
 {
     let job = match place.take() {
-        Some(Job::Written(job)) => job,
+        Some(Job::Written(job)) => job.into_job(),
         other => {
             *place = other;
             return Reply::NoJob;
@@ -106,9 +106,9 @@ pub(super) fn abandon_flush<S: Store>(tree: &mut Logged<S>, place: &mut Option<J
     ensures stored { S.tells → StaysStored (S.world tree.old.store) (S.world tree.new.store) tree.old.core tree.new.core }
 {
     let job = match place.take() {
-        Some(Job::Begun(job)) => job,
-        Some(Job::Merged(merged)) => merged.into_job(),
-        Some(Job::Written(written)) => written.into_job(),
+        Some(Job::Begun(job)) => job.into_job(),
+        Some(Job::Merged(merged)) => merged.into_job().into_job(),
+        Some(Job::Written(written)) => written.into_job().into_job(),
         other => {
             *place = other;
             return Reply::NoJob;

@@ -73,11 +73,11 @@ fn give_up<S: Store>(tree: &mut Logged<S>, place: Option<Job>)
     ensures rest { StaysBeside tree.old tree.new }
 {
     match place {
-        Some(Job::Begun(job)) => tree.abandon_flush(job),
-        Some(Job::Merged(merged)) => tree.abandon_flush(merged.into_job()),
-        Some(Job::Written(written)) => tree.abandon_flush(written.into_job()),
-        Some(Job::Compaction(job)) => tree.abandon_compaction(job),
-        Some(Job::Compacted(merged)) => tree.abandon_compaction(merged.into_job()),
+        Some(Job::Begun(job)) => tree.abandon_flush(job.into_job()),
+        Some(Job::Merged(merged)) => tree.abandon_flush(merged.into_job().into_job()),
+        Some(Job::Written(written)) => tree.abandon_flush(written.into_job().into_job()),
+        Some(Job::Compaction(job)) => tree.abandon_compaction(job.into_job()),
+        Some(Job::Compacted(merged)) => tree.abandon_compaction(merged.into_job().into_job()),
         None => {}
     }
 }

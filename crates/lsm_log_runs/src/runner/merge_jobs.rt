@@ -58,7 +58,7 @@ pub(super) fn run_compaction<S: Store>(tree: &Logged<S>, place: &mut Option<Job>
     ensures { TakesRunCompaction result [] place.old place.new tree.now.core tree.now.core }
 {
     let job = match place.take() {
-        Some(Job::Compaction(job)) => job,
+        Some(Job::Compaction(job)) => job.into_job(),
         other => {
             *place = other;
             return Reply::NoJob;
@@ -66,11 +66,11 @@ pub(super) fn run_compaction<S: Store>(tree: &Logged<S>, place: &mut Option<Job>
     };
     match job.run() {
         Ok(merged) => {
-            *place = Some(Job::Compacted(merged));
+            *place = Some(Job::Compacted(merged.keep()));
             Reply::Done
         }
         Err((error, job)) => {
-            *place = Some(Job::Compaction(job));
+            *place = Some(Job::Compaction(job.keep()));
             Reply::Refused(error)
         }
     }
@@ -83,7 +83,7 @@ pub(super) fn finish_compaction<S: Store>(tree: &mut Logged<S>, place: &mut Opti
     ensures causes { HasCause (ReplyBlames result) (S.world tree.old.store) (S.world tree.new.store) }
 {
     let merged = match place.take() {
-        Some(Job::Compacted(merged)) => merged,
+        Some(Job::Compacted(merged)) => merged.into_job(),
         other => {
             *place = other;
             return Reply::NoJob;
@@ -98,8 +98,8 @@ pub(super) fn abandon_compaction<S: Store>(tree: &mut Logged<S>, place: &mut Opt
     ensures stored { S.tells → StaysStored (S.world tree.old.store) (S.world tree.new.store) tree.old.core tree.new.core }
 {
     let job = match place.take() {
-        Some(Job::Compaction(job)) => job,
-        Some(Job::Compacted(merged)) => merged.into_job(),
+        Some(Job::Compaction(job)) => job.into_job(),
+        Some(Job::Compacted(merged)) => merged.into_job().into_job(),
         other => {
             *place = other;
             return Reply::NoJob;

@@ -3,7 +3,7 @@ ghost use Rattle.std.specs.Prelude.{◌≡◌, ◌⊎◌, IsSome, Ok};
 ghost use Rattle.lsm_commit.specs.Causes.{Blames};
 ghost use Rattle.lsm_state.specs.Commits.{Upholds};
 ghost use Rattle.lsm_state.specs.Compactions.{Spends};
-ghost use Rattle.lsm_state.specs.WholeCompactions.{options_at, only_memory, major_choice};
+ghost use Rattle.lsm_state.specs.WholeCompactions.{as_begun, options_at, only_memory, major_choice};
 ghost use Rattle.lsm_state.specs.Files.{BeginsFiles, FinishesFiles, CompactsFiles};
 ghost use Rattle.lsm_journal.specs.Noted.{noted_of, BeginsAnswer, CompactsAnswer};
 ghost use Rattle.lsm_recorded.specs.Flushing.{SpendsUnnoted, RefusesUnnoted};
@@ -141,11 +141,11 @@ impl<S: Store> Recorded<S> {
         pass: &mut Pass,
         chosen: Chosen,
         options: Options,
-    ) -> Result<Begun, Error>
+    ) -> Result<Option<Finished>, Error>
         requires { chosen.entries.items ≡ noted_of chosen.answer options.mvcc_gc_watermark self.old.tree.core }
-        ensures compacts { RefusesUnnoted result self.old self.new pass.old pass.new ⊎ NotesWhatIsDone (λ events. CompactsAnswer chosen.answer options result events self.old.tree.core self.new.tree.core) self.old self.new pass.old pass.new }
+        ensures compacts { RefusesUnnoted (as_begun result) self.old self.new pass.old pass.new ⊎ NotesWhatIsDone (λ events. CompactsAnswer chosen.answer options (as_begun result) events self.old.tree.core self.new.tree.core) self.old self.new pass.old pass.new }
         ensures upholds { S.tells → Upholds (S.world self.old.tree.store) (S.world self.new.tree.store) self.old.tree.core self.new.tree.core }
-        ensures files { (Blames chosen.answer → ⊥) → CompactsFiles result S.tells S.world self.old.tree self.new.tree }
+        ensures files { (Blames chosen.answer → ⊥) → CompactsFiles (as_begun result) S.tells S.world self.old.tree self.new.tree }
         ensures no_call { IsSome self.old.tree.core.lost → self.new.tree.store ≡ self.old.tree.store }
         ensures views { StaysBehind self.old.journal self.new.journal self.old.tree.core self.new.tree.core }
         ensures opened { self.new.opened ≡ self.old.opened }
@@ -158,13 +158,13 @@ impl<S: Store> Recorded<S> {
         let Ok(copies) = made else {
             return Err(Error::OutOfMemory);
         };
-        let (begun, entries) = compact_chosen(&mut self.core, chosen, options);
+        let (done, entries) = compact_chosen(&mut self.core, chosen, options);
         put!(self, pass, entries, copies);
-        begun
+        done
     }
 
     /// Compacts as a strategy chooses, in one call, as `do_compaction` of a tree. It notes what `begin_compaction` does, and
-    /// the install of a merge. The answer is never `Begun::Job`.
+    /// the install of a merge. Answers None where nothing is to be done.
     ///
     /// # Errors
     ///
@@ -175,11 +175,11 @@ impl<S: Store> Recorded<S> {
         pass: &mut Pass,
         strategy: &dyn CompactionStrategy,
         options: Options,
-    ) -> Result<Begun, Error>
-        ensures compacts { CompactsRecorded (may_choose strategy.now) (may_refuse strategy.now) options result self.old self.new pass.old pass.new }
+    ) -> Result<Option<Finished>, Error>
+        ensures compacts { CompactsRecorded (may_choose strategy.now) (may_refuse strategy.now) options (as_begun result) self.old self.new pass.old pass.new }
         // What a crash leaves, and what the call does to files.
         ensures upholds { S.tells → Upholds (S.world self.old.tree.store) (S.world self.new.tree.store) self.old.tree.core self.new.tree.core }
-        ensures files { CompactsFiles result S.tells S.world self.old.tree self.new.tree }
+        ensures files { CompactsFiles (as_begun result) S.tells S.world self.old.tree self.new.tree }
         ensures views { StaysBehind self.old.journal self.new.journal self.old.tree.core self.new.tree.core }
         ensures opened { self.new.opened ≡ self.old.opened }
     {
@@ -197,11 +197,11 @@ impl<S: Store> Recorded<S> {
         pass: &mut Pass,
         strategy: &C,
         options: Options,
-    ) -> Result<Begun, Error>
-        ensures compacts { CompactsRecorded (C.may_choose strategy.now) (C.may_refuse strategy.now) options result self.old self.new pass.old pass.new }
+    ) -> Result<Option<Finished>, Error>
+        ensures compacts { CompactsRecorded (C.may_choose strategy.now) (C.may_refuse strategy.now) options (as_begun result) self.old self.new pass.old pass.new }
         // What a crash leaves, and what the call does to files.
         ensures upholds { S.tells → Upholds (S.world self.old.tree.store) (S.world self.new.tree.store) self.old.tree.core self.new.tree.core }
-        ensures files { CompactsFiles result S.tells S.world self.old.tree self.new.tree }
+        ensures files { CompactsFiles (as_begun result) S.tells S.world self.old.tree self.new.tree }
         ensures views { StaysBehind self.old.journal self.new.journal self.old.tree.core self.new.tree.core }
         ensures opened { self.new.opened ≡ self.old.opened }
     {
@@ -224,11 +224,11 @@ impl<S: Store> Recorded<S> {
         pass: &mut Pass,
         strategy: &dyn CompactionStrategy,
         watermark: SeqNo,
-    ) -> Result<Begun, Error>
-        ensures compacts { CompactsRecorded (may_choose strategy.now) (may_refuse strategy.now) (options_at watermark self.old.tree.core) result self.old self.new pass.old pass.new }
+    ) -> Result<Option<Finished>, Error>
+        ensures compacts { CompactsRecorded (may_choose strategy.now) (may_refuse strategy.now) (options_at watermark self.old.tree.core) (as_begun result) self.old self.new pass.old pass.new }
         // What a crash leaves, and what the call does to files.
         ensures upholds { S.tells → Upholds (S.world self.old.tree.store) (S.world self.new.tree.store) self.old.tree.core self.new.tree.core }
-        ensures files { CompactsFiles result S.tells S.world self.old.tree self.new.tree }
+        ensures files { CompactsFiles (as_begun result) S.tells S.world self.old.tree self.new.tree }
         ensures views { StaysBehind self.old.journal self.new.journal self.old.tree.core self.new.tree.core }
         ensures opened { self.new.opened ≡ self.old.opened }
     {
@@ -246,11 +246,11 @@ impl<S: Store> Recorded<S> {
         pass: &mut Pass,
         target: u64,
         watermark: SeqNo,
-    ) -> Result<Begun, Error>
-        ensures compacts { CompactsRecorded (major_choice target) only_memory (options_at watermark self.old.tree.core) result self.old self.new pass.old pass.new }
+    ) -> Result<Option<Finished>, Error>
+        ensures compacts { CompactsRecorded (major_choice target) only_memory (options_at watermark self.old.tree.core) (as_begun result) self.old self.new pass.old pass.new }
         // What a crash leaves, and what the call does to files.
         ensures upholds { S.tells → Upholds (S.world self.old.tree.store) (S.world self.new.tree.store) self.old.tree.core self.new.tree.core }
-        ensures files { CompactsFiles result S.tells S.world self.old.tree self.new.tree }
+        ensures files { CompactsFiles (as_begun result) S.tells S.world self.old.tree self.new.tree }
         ensures views { StaysBehind self.old.journal self.new.journal self.old.tree.core self.new.tree.core }
         ensures opened { self.new.opened ≡ self.old.opened }
     {
@@ -264,18 +264,22 @@ impl<S: Store> Recorded<S> {
     /// # Errors
     ///
     /// Those of `do_compaction`, but for the refusals of other strategies. `Unrecoverable` goes before reversed bounds.
-    pub fn drop_range(&mut self, pass: &mut Pass, bounds: OwnedBounds) -> Result<Begun, Error>
-        ensures drops { DropsRecorded bounds result self.old self.new pass.old pass.new }
+    pub fn drop_range(
+        &mut self,
+        pass: &mut Pass,
+        bounds: OwnedBounds,
+    ) -> Result<Option<Finished>, Error>
+        ensures drops { DropsRecorded bounds (as_begun result) self.old self.new pass.old pass.new }
         // What a crash leaves, and what the call does to files.
         ensures upholds { S.tells → Upholds (S.world self.old.tree.store) (S.world self.new.tree.store) self.old.tree.core self.new.tree.core }
-        ensures files { CompactsFiles result S.tells S.world self.old.tree self.new.tree }
+        ensures files { CompactsFiles (as_begun result) S.tells S.world self.old.tree self.new.tree }
         ensures views { StaysBehind self.old.journal self.new.journal self.old.tree.core self.new.tree.core }
         ensures opened { self.new.opened ≡ self.old.opened }
     {
         reads_are_sound();
         self.is_upheld();
         if drops_nothing(&self.core, &bounds) {
-            return Ok(Begun::DidNothing);
+            return Ok(None);
         }
         let options = self.core.options_at(0);
         self.compact_with(pass, &DropRange::new(bounds), options)

@@ -11,7 +11,7 @@ ghost use Rattle.lsm_runs.specs.Causes.{ReplyBlames};
 ghost use Rattle.lsm_runs.specs.Files.{TouchesFiles};
 
 use super::{refused, silent};
-use crate::replies::{of_begun, of_finished};
+use crate::replies::{of_begun, of_done, of_finished};
 use crate::slots::Job;
 use crate::{Compacted, Outcome, Reply};
 use lsm_below::{SeqNo, UserKey};
@@ -77,7 +77,7 @@ pub(super) fn run_compaction<S: Store>(
     ensures { TakesRunCompaction result.reply result.entries place.old place.new state.now.core state.now.core }
 {
     let job = match place.take() {
-        Some(Job::Compaction(job)) => job,
+        Some(Job::Compaction(job)) => job.into_job(),
         other => {
             *place = other;
             return silent(alloc, Reply::NoJob);
@@ -85,11 +85,11 @@ pub(super) fn run_compaction<S: Store>(
     };
     match job.run() {
         Ok(merged) => {
-            *place = Some(Job::Compacted(merged));
+            *place = Some(Job::Compacted(merged.keep()));
             silent(alloc, Reply::Done)
         }
         Err((error, job)) => {
-            *place = Some(Job::Compaction(job));
+            *place = Some(Job::Compaction(job.keep()));
             refused(alloc, error)
         }
     }
@@ -107,7 +107,7 @@ pub(super) fn finish_compaction<S: Store>(
     state.is_upheld();
     let entries = finish_entries(alloc, state.seqno().get())?;
     let merged = match place.take() {
-        Some(Job::Compacted(merged)) => merged,
+        Some(Job::Compacted(merged)) => merged.into_job(),
         other => {
             *place = other;
             return Ok(silent(alloc, Reply::NoJob));
@@ -127,8 +127,8 @@ pub(super) fn abandon_compaction<S: Store>(
     ensures store { state.new.store ≡ state.old.store }
 {
     let job = match place.take() {
-        Some(Job::Compaction(job)) => job,
-        Some(Job::Compacted(merged)) => merged.into_job(),
+        Some(Job::Compaction(job)) => job.into_job(),
+        Some(Job::Compacted(merged)) => merged.into_job().into_job(),
         other => {
             *place = other;
             return silent(alloc, Reply::NoJob);
@@ -149,7 +149,7 @@ fn compact_noting<S: Store>(state: &mut TreeState<S>, chosen: Chosen, options: O
     ensures no_call { IsSome state.old.core.lost → state.new.store ≡ state.old.store }
 {
     let (done, entries) = compact_chosen(state, chosen, options);
-    let (reply, _) = of_begun(done);
+    let reply = of_done(done);
     Outcome { reply, entries }
 }
 

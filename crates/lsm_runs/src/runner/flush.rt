@@ -33,7 +33,7 @@ pub(super) fn begin_flush<S: Store>(
     }
     match state.begin_flush() {
         Ok(Some(job)) => {
-            *place = Some(Job::Begun(job));
+            *place = Some(Job::Begun(job.keep()));
             silent(alloc, Reply::Begun(true))
         }
         Ok(None) => silent(alloc, Reply::Begun(false)),
@@ -50,7 +50,7 @@ pub(super) fn run_flush<S: Store>(
     ensures { TakesRun watermark result.reply result.entries place.old place.new state.now.core state.now.core }
 {
     let job = match place.take() {
-        Some(Job::Begun(job)) => job,
+        Some(Job::Begun(job)) => job.into_job(),
         other => {
             *place = other;
             return silent(alloc, Reply::NoJob);
@@ -58,11 +58,11 @@ pub(super) fn run_flush<S: Store>(
     };
     match job.run(watermark) {
         Ok(merged) => {
-            *place = Some(Job::Merged(merged));
+            *place = Some(Job::Merged(merged.keep()));
             silent(alloc, Reply::Done)
         }
         Err((error, job)) => {
-            *place = Some(Job::Begun(job));
+            *place = Some(Job::Begun(job.keep()));
             refused(alloc, error)
         }
     }
@@ -80,7 +80,7 @@ pub(super) fn flush_to_tables<S: Store>(
 {
     state.is_upheld();
     let job = match place.take() {
-        Some(Job::Merged(job)) => job,
+        Some(Job::Merged(job)) => job.into_job(),
         other => {
             *place = other;
             return silent(alloc, Reply::NoJob);
@@ -88,11 +88,11 @@ pub(super) fn flush_to_tables<S: Store>(
     };
     match state.flush_to_tables(job) {
         Ok(written) => {
-            *place = Some(Job::Written(written));
+            *place = Some(Job::Written(written.keep()));
             silent(alloc, Reply::Done)
         }
         Err((error, job)) => {
-            *place = Some(Job::Merged(job));
+            *place = Some(Job::Merged(job.keep()));
             refused(alloc, error)
         }
     }
@@ -120,7 +120,7 @@ pub(super) fn register_tables<S: Store>(
 {
     state.is_upheld();
     let job = match place.take() {
-        Some(Job::Written(job)) => job,
+        Some(Job::Written(job)) => job.into_job(),
         other => {
             *place = other;
             return Ok(silent(alloc, Reply::NoJob));
@@ -132,7 +132,7 @@ pub(super) fn register_tables<S: Store>(
             Ok(of_registered(entries, registered))
         }
         Err(error) => {
-            *place = Some(Job::Written(job));
+            *place = Some(Job::Written(job.keep()));
             Err(error)
         }
     }
@@ -147,9 +147,9 @@ pub(super) fn abandon_flush<S: Store>(
     ensures store { state.new.store ≡ state.old.store }
 {
     let job = match place.take() {
-        Some(Job::Begun(job)) => job,
-        Some(Job::Merged(merged)) => merged.into_job(),
-        Some(Job::Written(written)) => written.into_job(),
+        Some(Job::Begun(job)) => job.into_job(),
+        Some(Job::Merged(merged)) => merged.into_job().into_job(),
+        Some(Job::Written(written)) => written.into_job().into_job(),
         other => {
             *place = other;
             return silent(alloc, Reply::NoJob);

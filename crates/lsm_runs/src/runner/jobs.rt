@@ -75,11 +75,11 @@ fn give_up<S: Store>(state: &mut TreeState<S>, place: Option<Job>)
     ensures store { state.new.store ≡ state.old.store }
 {
     match place {
-        Some(Job::Begun(job)) => state.abandon_flush(job),
-        Some(Job::Merged(merged)) => state.abandon_flush(merged.into_job()),
-        Some(Job::Written(written)) => state.abandon_flush(written.into_job()),
-        Some(Job::Compaction(job)) => state.abandon_compaction(job),
-        Some(Job::Compacted(merged)) => state.abandon_compaction(merged.into_job()),
+        Some(Job::Begun(job)) => state.abandon_flush(job.into_job()),
+        Some(Job::Merged(merged)) => state.abandon_flush(merged.into_job().into_job()),
+        Some(Job::Written(written)) => state.abandon_flush(written.into_job().into_job()),
+        Some(Job::Compaction(job)) => state.abandon_compaction(job.into_job()),
+        Some(Job::Compacted(merged)) => state.abandon_compaction(merged.into_job().into_job()),
         None => {}
     }
 }

@@ -54,6 +54,7 @@ impl<S: Store> TreeState<S> {
     {
         self.is_upheld();
         self.spend(&job);
+        drop(job.keep());
     }
 
     /// Where contents are written that are the files of tables, the tables are on the disk.
@@ -220,10 +221,10 @@ impl<S: Store> TreeState<S> {
         }
     }
 
-    /// Spends a job, and ends it.
-    fn finish_spent(&mut self, merged: MergedCompaction, own: bool) -> Result<Finished, Error>
-        requires own { own ≡ true → HasOwnInputs merged.job self.old.core }
-        ensures finishes { Finishes merged.job result self.old.core self.new.core }
+    /// Closes the merge of a job, and ends it.
+    fn finish_spent(&mut self, merged: &MergedCompaction, own: bool) -> Result<Finished, Error>
+        requires own { own ≡ true → HasOwnInputs merged.now.job self.old.core }
+        ensures finishes { Finishes merged.now.job result self.old.core self.new.core }
         ensures upholds { S.tells → Upholds (S.world self.old.store) (S.world self.new.store) self.old.core self.new.core }
         ensures files { FinishesFiles result S.tells S.world self.old self.new }
     {
@@ -235,7 +236,7 @@ impl<S: Store> TreeState<S> {
         if !open {
             return Ok(Finished::Declined(Why::UnknownJob));
         }
-        self.finish_closed(&merged, own)
+        self.finish_closed(merged, own)
     }
 
     /// Ends a merge that was done, and is spent whatever is answered: its tables aren't in use any more. Where it is open, and
@@ -277,6 +278,8 @@ impl<S: Store> TreeState<S> {
     {
         compactions_are_deeds();
         self.facts();
-        self.finish_spent(merged, own)
+        let finished = self.finish_spent(&merged, own);
+        drop(merged.keep());
+        finished
     }
 }

@@ -79,7 +79,9 @@ impl<S: Store> TreeState<S> {
         };
         let written = self.write_job(job, watermark)?;
         *marked = true;
-        match self.register(written, true) {
+        let registered = self.register(&written, true);
+        drop(written.keep());
+        match registered {
             Ok(registered) => Ok(Some((size, registered))),
             Err(Error::CommitUnknown) => Err(Error::CommitUnknown),
             Err(error) => {

@@ -1,9 +1,9 @@
-use Rattle.std.proofs.Common.{ap, ◌∙◌}
+use Rattle.std.proofs.Common.{ap, ◌∙◌, arith}
 use Rattle.lsm_memtable.proofs.memtable.Memtable.insert_counted.Goals as goal
 
-pub returns-clause-compared : goal.returns-clause-compared
-returns-clause-compared c = (
+pub returns-clause-blocks : goal.returns-clause-blocks
+returns-clause-blocks c = (
   c.self.inside.content.blocks.items,
   record { same = ap (λ t. t.entries) (c.self.view_is ∙ c.house-item.ensures.stays); filled = c.self.invariant.blocks.filled },
-  c.add_entry.ensures.compared,
+  omega (arith, c.len-blocks.ensures),
 )
