@@ -261,7 +261,11 @@ ends_core job r old new f = go old.lost refl
 
 finish_step : {S : Type 0} (r : Reply) (was is : Option Job) (old new : SeenLogged S) → TakesFinish r was is old new → Advances old.core new.core
 finish_step reply.NoJob was is old new t = same_tree old new t.0.1
-finish_step r was is old new t = asked t.end old new _ t.ends (λ f. ends_core t.job.job t.end old.core new.core f)
+finish_step r was is old new t = by_doubt old.doubted refl
+  where
+    by_doubt : (b : Bool) → old.doubted ≡ b → Advances old.core new.core
+    by_doubt true at = inl (spends_rests t.job.job old.core new.core (t.ends.doubted at).1).versions
+    by_doubt false at = ends_core t.job.job t.end old.core new.core (t.ends.finishes at)
 
 abandon_compaction_step : {S : Type 0} (r : Reply) (was is : Option Job) (old new : SeenLogged S) → TakesAbandonCompaction r was is old new → Advances old.core new.core
 abandon_compaction_step reply.Done was is old new t = inl (spends_rests t.0 old.core new.core t.3).versions

@@ -23,7 +23,7 @@ use Rattle.lsm_state.specs.Compactions.{Finishes}
 use Rattle.lsm_state.specs.CompactionDeeds.{IsMarkedIn, merge_of, IsMergeDeed, IsLostMerge, MergeDeeds, CompactionsAreDeeds}
 use Rattle.lsm_logged.specs.Keeping.{SeenLogged, IsLogOf, KeepsLog}
 use Rattle.lsm_logged.specs.Removing.{log_from_of}
-use Rattle.lsm_logged.specs.Acting.{LeadsBy, ActsByMerge, MergesAct}
+use Rattle.lsm_logged.specs.Acting.{ActsNot, LeadsBy, ActsByMerge, MergesAct}
 use Rattle.lsm_logged.proofs.Led.{Lifted, kept_up, unknown, told_last, last_install, is_certain, leads_passing, leads_nowhere}
 use Rattle.lsm_logged.proofs.Merged.{IsOver, IsIn, IsInDoubt, is_in, in_doubt, over}
 use Rattle.lsm_logged.proofs.Rising.{finishes}
@@ -98,21 +98,16 @@ module _ {S : Type 0} (job : SeenCompaction) (w w' : World) (old new : SeenLogge
       refused = λ a u. quiet (Err e) ends ((λ z. cc z), (λ z. a (err_is e AfterCommit z)), (λ z. u (err_is e CommitUnknown z))) (deeds.refused a u);
     }
 
-  -- a record has unknown outcome, and nothing is done
-  nowhere : new.core ≡ old.core → ActsByMerge job (Err Unrecoverable) w w' old new opened journal notes t
-  nowhere e = record {
-    done = λ h. absurd (⊎_elim (λ z. cc z) (λ z. cc z) h);
-    lost = λ u. absurd (cc u);
-    told = tt;
-    refused = λ a u. leads_nowhere opened journal notes t w w' old new is keeps commits.files doubt commits.passes (ap (saved_of journal notes) e) (ap log_from_of e) (ap (λ (c : Core). c.lost) e) (let q = ap (λ (c : Core). c.seqno) e in omega (arith, q));
-  }
-
 -- ---- the call
 
-pub unsure_merge : {S : Type 0} (job : SeenCompaction) (world : S → World) (old now : SeenLogged S) → old ≡ now → Upholds (world old.store) (world old.store) old.core old.core → MergesAct job (Err Unrecoverable) (world now.store) (world now.store) now now
-unsure_merge {S} job world old now same still =
-    let there : Upholds (world now.store) (world now.store) now.core now.core = subst (λ (t : SeenLogged S). Upholds (world t.store) (world t.store) t.core t.core) same still in
-    λ opened start journal notes t is keeps next holds. nowhere job (world now.store) (world now.store) now now refl there opened start journal notes t is keeps refl
+-- a record has unknown outcome: the job is spent, of which the theory sees nothing
+pub unsure_merge : {S : Type 0} (job : SeenCompaction) (w w' : World) (old new : SeenLogged S) → ActsNot w w' old new → MergesAct job (Err Unrecoverable) w w' old new
+unsure_merge job w w' old new acts opened start journal notes t is keeps next holds = record {
+  done = λ h. absurd (⊎_elim (λ z. cc z) (λ z. cc z) h);
+  lost = λ u. absurd (cc u);
+  told = tt;
+  refused = λ a u. acts opened journal notes t is keeps;
+}
 
 pub merge_acts : {S : Type 0} (job : SeenCompaction) (world : S → World) (old now new : SeenLogged S) → old ≡ now → IsKeptTree now.core → CompactionsAreDeeds → old.doubted ≡ false → new.doubted ≡ old.doubted → Upholds (world old.store) (world new.store) old.core new.core
     → (r : Result Finished Error) → Finishes job r old.core new.core → MergesAct job r (world now.store) (world new.store) now new

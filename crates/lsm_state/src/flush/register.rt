@@ -170,21 +170,17 @@ impl<S: Store> TreeState<S> {
     }
 
     /// Spends a job, and installs it where it is current.
-    pub(crate) fn register(
-        &mut self,
-        job: &WrittenFlush,
-        current: bool,
-    ) -> Result<Registered, Error>
-        requires { IsTrue current ↔ IsCurrent job.now self.old.core }
-        ensures registers { Registers job.now result self.old.core self.new.core }
+    pub(crate) fn register(&mut self, job: WrittenFlush, current: bool) -> Result<Registered, Error>
+        requires { IsTrue current ↔ IsCurrent job self.old.core }
+        ensures registers { Registers job result self.old.core self.new.core }
         ensures upholds { S.tells → Upholds (S.world self.old.store) (S.world self.new.store) self.old.core self.new.core }
         ensures causes { HasCause (BlamesOrUnclean result) (S.world self.old.store) (S.world self.new.store) }
         ensures gone { S.tells → IfOk result (λ a. a.installed ≡ true → a.cleaned ≡ true → LeavesNoVersions (S.world self.new.store) self.old.core.history self.new.core.history) }
         ensures rests { IfOk result (λ a. a.installed ≡ false → self.new.store ≡ self.old.store) }
         ensures no_call { IsSome self.old.core.lost → self.new.store ≡ self.old.store }
-        ensures marks { IsMarkDeed job.now.watermark self.old.core (spent job.now.job.number self.old.core) }
-        ensures deeds { IfOk result (λ a. a.installed ≡ true → IsFlushDeed job.now self.old.core self.new.core) }
-        ensures lost { IsErrOf result Error.CommitUnknown → IsLostFlush job.now self.old.core self.new.core }
+        ensures marks { IsMarkDeed job.watermark self.old.core (spent job.job.number self.old.core) }
+        ensures deeds { IfOk result (λ a. a.installed ≡ true → IsFlushDeed job self.old.core self.new.core) }
+        ensures lost { IsErrOf result Error.CommitUnknown → IsLostFlush job self.old.core self.new.core }
     {
         flushes_are_deeds();
         self.facts();
@@ -192,11 +188,15 @@ impl<S: Store> TreeState<S> {
         crashes_leave_versions(&self.store);
         self.close_flush(job.job().number());
         if self.lost.is_some() {
+            drop(job.keep());
             return Err(Error::Unrecoverable);
         }
         if current {
-            return self.install(job);
+            let installed = self.install(&job);
+            drop(job.keep());
+            return installed;
         }
+        drop(job.keep());
         Ok(Registered {
             installed: false,
             cleaned: true,
@@ -205,22 +205,22 @@ impl<S: Store> TreeState<S> {
 
     /// As `register`, of a current job; refused, the files of its tables are removed, as far as the store lets it, unless the
     /// version that names them may be the current one.
-    fn register_current(&mut self, job: &WrittenFlush) -> Result<Registered, Error>
+    fn register_current(&mut self, job: WrittenFlush) -> Result<Registered, Error>
         requires certain { self.old.core.lost ≡ None }
-        requires current { IsCurrent job.now self.old.core }
-        ensures registers { Registers job.now result self.old.core self.new.core }
+        requires current { IsCurrent job self.old.core }
+        ensures registers { Registers job result self.old.core self.new.core }
         ensures upholds { S.tells → Upholds (S.world self.old.store) (S.world self.new.store) self.old.core self.new.core }
         ensures causes { HasCause (BlamesOrUnclean result) (S.world self.old.store) (S.world self.new.store) }
         ensures gone { S.tells → IfOk result (λ a. a.installed ≡ true → a.cleaned ≡ true → LeavesNoVersions (S.world self.new.store) self.old.core.history self.new.core.history) }
         ensures rests { IfOk result (λ a. a.installed ≡ false → self.new.store ≡ self.old.store) }
-        ensures refused { S.tells → IsErrOf result Error.OutOfNumbers ⊎ IsErrOf result Error.TooManyRuns → RemovesTables (map (λ t. t.id) job.now.tables) (S.world self.old.store) (S.world self.new.store) }
-        ensures deeds { IfOk result (λ a. a.installed ≡ true → IsFlushDeed job.now self.old.core self.new.core) }
-        ensures lost { IsErrOf result Error.CommitUnknown → IsLostFlush job.now self.old.core self.new.core }
+        ensures refused { S.tells → IsErrOf result Error.OutOfNumbers ⊎ IsErrOf result Error.TooManyRuns → RemovesTables (map (λ t. t.id) job.tables) (S.world self.old.store) (S.world self.new.store) }
+        ensures deeds { IfOk result (λ a. a.installed ≡ true → IsFlushDeed job self.old.core self.new.core) }
+        ensures lost { IsErrOf result Error.CommitUnknown → IsLostFlush job self.old.core self.new.core }
     {
         self.facts();
         let Ok(ids) = ids_of(self.alloc, job.tables()) else {
             self.is_upheld();
-            self.close_flush(job.job().number());
+            self.abandon_flush(job.into_job());
             return Err(Error::OutOfMemory);
         };
         match self.register(job, true) {
@@ -265,12 +265,9 @@ impl<S: Store> TreeState<S> {
         flushes_are_deeds();
         self.facts();
         let current = self.is_current(&job);
-        let registered = if current && !self.is_uncertain() {
-            self.register_current(&job)
-        } else {
-            self.register(&job, current)
-        };
-        drop(job.keep());
-        registered
+        if current && !self.is_uncertain() {
+            return self.register_current(job);
+        }
+        self.register(job, current)
     }
 }

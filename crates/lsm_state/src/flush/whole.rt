@@ -79,9 +79,7 @@ impl<S: Store> TreeState<S> {
         };
         let written = self.write_job(job, watermark)?;
         *marked = true;
-        let registered = self.register(&written, true);
-        drop(written.keep());
-        match registered {
+        match self.register(written, true) {
             Ok(registered) => Ok(Some((size, registered))),
             Err(Error::CommitUnknown) => Err(Error::CommitUnknown),
             Err(error) => {

@@ -1,6 +1,7 @@
 use Rattle.std.proofs.Common.{refl}
 use Rattle.lsm_logged.specs.Keeping.{tree_of}
 use Rattle.lsm_logged.proofs.FinishActs.{merge_acts, unsure_merge}
+use Rattle.lsm_logged.proofs.NoActs.{closed_not}
 use Rattle.lsm_logged.proofs.Reopening.{numbered_more}
 use Rattle.lsm_logged.proofs.Rising.{finishes}
 use Rattle.lsm_logged.proofs.Seen.{logged_with}
@@ -17,8 +18,10 @@ invariant_of-self g c =
 pub returns-then-self-clause-acts : goal.returns-then-self-clause-acts
 returns-then-self-clause-acts g c tells =
     let i = c.self.inside in
-    let old = logged_with i.tree i.numbers.items i.doubted in
-    unsure_merge c.args.merged.job g.S.Store.world old c.args.self.now c.self.view_is (c.is_upheld.ensures tells)
+    let left = c.abandon_compaction.new.self in
+    let world = g.S.Store.world in
+    let acts = closed_not world i.tree left i.numbers.items i.doubted c.args.self.now c.self.view_is _ c.store.ensures (c.crashes_leave_versions.ensures tells) c.abandon_compaction.ensures.store c.into_job.result c.abandon_compaction.ensures.spends in
+    unsure_merge c.args.merged.job (world c.args.self.now.store) (world left.store) c.args.self.now (logged_with left i.numbers.items i.doubted) acts
 
 pub returns-clause-acts : goal.returns-clause-acts
 returns-clause-acts g c tells =

@@ -22,4 +22,4 @@ returns-clause-files g c =
 pub finish_closed-requires-clause-own : goal.finish_closed-requires-clause-own
 finish_closed-requires-clause-own g c own =
     let levels = spent_stays levels_of c.args.self.now.core c.spend-open.new.self.core c.job.result.now.number c.spend-open.result refl c.spend-open.ensures.closed c.spend-open.ensures.other in
-    subst (AreOneById (tables_of c.args.merged.job.inputs)) (sym levels) (c.requires.own own)
+    subst (AreOneById (tables_of c.args.merged.now.job.inputs)) (sym levels) (c.requires.own own)

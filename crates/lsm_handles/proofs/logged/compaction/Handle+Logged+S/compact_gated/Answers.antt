@@ -1,12 +1,13 @@
 -- The job that the gate answers is the one that the beginning handed out.
 use Rattle.std.proofs.Common.{Ok, ◌∙◌, ap, sym, subst}
+use Rattle.lsm_state.specs.WholeCompactions.{as_begun}
 use Rattle.lsm_handles.specs.Gates.{EndsGatedLogged, FollowsGatedLogged}
 use Rattle.lsm_handles.proofs.Gates.{of_the_job}
 use Rattle.lsm_handles.proofs.logged.compaction.Handle+Logged+S.compact_gated.Goals as goal
 
 pub returns-in-Ok-Job-clause-gated : goal.returns-in-Ok-Job-clause-gated
 returns-in-Ok-Job-clause-gated g c =
-    let told = c.end_gated.result in
+    let told = as_begun c.end_gated.result in
     let ends = of_the_job c.in-Ok-Job.job (λ j. EndsGatedLogged g.S.Store.tells g.S.Store.world j told) c.pass.result c.pass.ensures.job c.pass.ensures.back c.end_gated.ensures.done c.end_gated.ensures.back in
     record {
       begun = c.begin_at-begun.result;
