@@ -1,4 +1,4 @@
-use Rattle.std.proofs.Common.{◌≡◌, Ok, List, length, take, refl, sym, ap, ◌∙◌, subst}
+use Rattle.std.proofs.Common.{◌≡◌, Ok, List, length, take, refl, sym, ap, ◌∙◌, subst, arith}
 use Rattle.lsm_model.specs.Journal.{Event}
 use Rattle.lsm_commit.specs.Causes.{Blames}
 use Rattle.lsm_state.specs.WholeCompactions.{as_begun}
@@ -17,7 +17,8 @@ returns-in-Ok-clause-compacts g c =
     let r = as_begun c.compact_choice-done.result in
     let entries : List Event = c.args.chosen.entries.items in
     let noted : entries ≡ noted_of (Ok choice) w old = c.requires ∙ ap (λ a. noted_of a w old) c.in-Ok.is in
-    let kept = c.count_done-kept.ensures ∙ ap (kept_of r) c.len.ensures in
+    let all : c.len.result ≡ length entries = omega (arith, c.len.ensures) in
+    let kept = c.count_done-kept.ensures ∙ ap (kept_of r) all in
     let events = c.cut.ensures.kept ∙ ap (λ n. take n entries) kept ∙ ap (λ (es : List Event). take (kept_of r (length es)) es) noted in
     subst (λ a. CompactsAnswer a o r c.cut.result.items old new) (sym c.in-Ok.is) (subst (λ es. CompactsNoted choice o r es old new) (sym events) (compacts_noted choice o r old new c.compact_choice-done.ensures.compacts))
 
