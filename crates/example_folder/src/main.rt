@@ -19,8 +19,7 @@ fn open(rt: &HostRuntime) -> Result<Runs> {
 
 /// Writes one key more than there are. Once it is answered, no crash takes it.
 fn add_run(alloc: Global, tree: &mut Runs) -> Result<()> {
-    let reads = tree.tree();
-    let runs = reads.len(reads.visible_seqno().get(), None)?;
+    let runs = tree.len(tree.visible_seqno().get(), None)?;
     let key = format!(in alloc; "run {}", runs.saturating_add(1))?;
     let key = UserKey::copy_from_slice(alloc, key.as_bytes())?;
     let written = tree.write(vec![in alloc; (key, Op::Set(UserKey::from_static(b"done")))]?);
@@ -30,15 +29,14 @@ fn add_run(alloc: Global, tree: &mut Runs) -> Result<()> {
 
 /// Writes all that is only in the log to a table, so that the log doesn't grow on.
 fn flush_all(tree: &mut Runs) -> Result<()> {
-    let watermark = tree.tree().visible_seqno().get();
+    let watermark = tree.visible_seqno().get();
     let flushed = tree.flush_active_memtable(watermark);
     flushed.map_err(|(error, _)| tree.store().explain(error))?;
     Ok(())
 }
 
 fn list_runs(rt: &impl Print, tree: &Runs) -> Result<()> {
-    let reads = tree.tree();
-    for pair in reads.iter(reads.visible_seqno().get(), None)? {
+    for pair in tree.iter(tree.visible_seqno().get(), None)? {
         let (key, value) = pair.into_inner()?;
         println!(rt; "{key:?} is {value:?}")?;
     }

@@ -21,7 +21,7 @@ fn batch(alloc: Global) -> Result<Vec<(UserKey, Op)>, AllocError> {
 }
 
 fn print_apple(rt: &impl Print, tree: &Logged) -> Result<()> {
-    let value = tree.tree().get(b"apple", 1)?;
+    let value = tree.get(b"apple", 1)?;
     println!(rt; "{value:?}")?;
     Ok(())
 }

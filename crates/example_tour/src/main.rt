@@ -43,7 +43,7 @@ fn remove(alloc: Global, tree: &mut Tour, key: &'static [u8]) -> Result<()> {
 
 /// Writes all that is only in the log to a table. Old versions that no reader needs may go.
 fn flush(tree: &mut Tour) -> Result<()> {
-    let watermark = tree.tree().visible_seqno().get();
+    let watermark = tree.visible_seqno().get();
     let flushed = tree.flush_active_memtable(watermark);
     flushed.map_err(|(error, _)| tree.store().explain(error))?;
     Ok(())
@@ -51,7 +51,7 @@ fn flush(tree: &mut Tour) -> Result<()> {
 
 /// Merges all tables into the last level.
 fn merge(tree: &mut Tour) -> Result<()> {
-    let watermark = tree.tree().visible_seqno().get();
+    let watermark = tree.visible_seqno().get();
     let merged = tree.major_compact(u64::MAX, watermark);
     merged.map_err(|error| tree.store().explain(error))?;
     Ok(())
@@ -110,9 +110,8 @@ fn work(rt: &HostRuntime, tree: &mut Tour) -> Result<()> {
 
 /// Lists what the tree shows.
 fn list(rt: &impl Print, tree: &Tour) -> Result<()> {
-    let reads = tree.tree();
     let all = (Bound::Unbounded, Bound::Unbounded);
-    for (key, value) in reads.pairs(&all, reads.visible_seqno().get(), None)? {
+    for (key, value) in tree.pairs(&all, tree.visible_seqno().get(), None)? {
         println!(rt; "{key:?} is {value:?}")?;
     }
     Ok(())

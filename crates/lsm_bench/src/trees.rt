@@ -79,7 +79,7 @@ impl<S: Store + Send> AnyTree<S> {
             AnyTree::Owned(tree) => tree.get(key, snapshot),
             AnyTree::Locked(tree) => tree.get(rt, key, snapshot),
             AnyTree::Recorded(tree, pass) => tree.get(pass, key, snapshot),
-            AnyTree::Logged(tree) => tree.tree().get(key, snapshot),
+            AnyTree::Logged(tree) => tree.get(key, snapshot),
         }
     }
 
@@ -89,7 +89,7 @@ impl<S: Store + Send> AnyTree<S> {
             AnyTree::Owned(tree) => tree.visible_seqno().get(),
             AnyTree::Locked(tree) => tree.visible_number(rt),
             AnyTree::Recorded(tree, _) => tree.visible_seqno().get(),
-            AnyTree::Logged(tree) => tree.tree().visible_seqno().get(),
+            AnyTree::Logged(tree) => tree.visible_seqno().get(),
         }
     }
 

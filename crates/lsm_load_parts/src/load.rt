@@ -15,7 +15,7 @@ const RECORDS: usize = 1_000;
 
 /// Writes all that is in records alone to a table. Nothing is read at a lower snapshot.
 fn flush<S: Store>(tree: &mut Logged<S>) -> Result<(), Error> {
-    let watermark = tree.tree().visible_seqno().get();
+    let watermark = tree.visible_seqno().get();
     match tree.flush_active_memtable(watermark) {
         Ok(_) => Ok(()),
         Err((error, _)) => Err(error),

@@ -5,6 +5,8 @@
 //! | `logged` | the tree and its log |
 //! | `opening` | how it is opened over a store |
 //! | `writes` | its writes |
+//! | `reads` | its reads |
+//! | `counts` | what is counted of it |
 //! | `flush` | its flushes, and a clear |
 //! | `compaction` | its compactions |
 //! | `removing` | how records that the version has passed are removed |
@@ -12,10 +14,12 @@
 #![tactic(auto)]
 
 mod compaction;
+mod counts;
 mod flush;
 mod laws;
 mod logged;
 mod opening;
+mod reads;
 mod removing;
 mod writes;
 

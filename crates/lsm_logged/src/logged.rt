@@ -21,6 +21,7 @@ use std::marker::Model;
 ///
 /// ```text
 /// let number = tree.write(vec![in alloc; (key, Op::Set(value))]?)?;
+/// let found = tree.get(b"key", number + 1)?;
 /// ```
 #[derive(Drop)]
 pub struct Logged<S: Store = MemStore> {
@@ -49,7 +50,7 @@ impl<S: Store> Logged<S> {
         self.tree.facts();
     }
 
-    /// The tree, to be read: each read of `TreeState`, each count and each choice of a strategy is a call of it.
+    /// The tree, to be read, as by `TreeState::choose`.
     pub fn tree(&self) -> &TreeState<S>
         ensures { result.now ≡ record { store = self.now.store; core = self.now.core } }
     {

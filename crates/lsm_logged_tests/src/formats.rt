@@ -67,7 +67,7 @@ fn flush_it(alloc: Global, tree: &mut Logged) -> Result<Flushed, Error> {
     flush(tree)?;
     let length = file(alloc, tree, "v2")?.len();
     let are_named = has_names(alloc, tree, "", &NAMES)?;
-    Ok((length, tree.tree().current_version().log_from(), are_named))
+    Ok((length, tree.current_version().log_from(), are_named))
 }
 
 /// How many tables, entries and records there are after a crash to which both records come back.

@@ -141,8 +141,8 @@ fn picks_of(alloc: Global, set: u32) -> Result<Vec<(&'static str, Pick<'static>)
 }
 
 fn agrees(tree: &Logged, key: &[u8], known: Known) -> Result<bool, Error> {
-    let snapshot = tree.tree().visible_seqno().get();
-    Ok(known.allows(tree.tree().contains_key(key, snapshot)?))
+    let snapshot = tree.visible_seqno().get();
+    Ok(known.allows(tree.contains_key(key, snapshot)?))
 }
 
 /// Whether each key shows what it is to show.

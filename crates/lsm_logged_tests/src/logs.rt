@@ -102,7 +102,6 @@ pub fn flush_between(alloc: Global, tree: &mut Logged) -> Result<u64, Error> {
 /// How many tables, entries and records there are.
 pub fn count(alloc: Global, tree: &Logged) -> Result<(usize, usize, usize), Error> {
     let records = count_records(alloc, tree)?;
-    let tree = tree.tree();
     Ok((tree.table_count(), tree.approximate_len(), records))
 }
 
@@ -231,7 +230,7 @@ fn clear_between(alloc: Global, tree: &mut Logged) -> Result<u64, Error> {
 
 /// From where on the log is read, and whether only the record of b is left.
 fn look_at_log(alloc: Global, tree: &Logged) -> Result<(u64, bool), Error> {
-    let from = tree.tree().current_version().log_from();
+    let from = tree.current_version().log_from();
     Ok((from, has_names(alloc, tree, "log/", &["log/2"])?))
 }
 
@@ -349,7 +348,7 @@ fn merge(alloc: Global, tree: &mut Logged) -> Result<(u64, u64), Error> {
     let removal = write(alloc, tree, "c", None)?;
     flush(tree)?;
     tree.major_compact(u64::MAX, 5)?;
-    Ok((removal, tree.tree().seqno().get()))
+    Ok((removal, tree.seqno().get()))
 }
 
 fn lacks_both(tree: &Logged) -> Result<(bool, bool), Error> {

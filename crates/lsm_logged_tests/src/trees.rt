@@ -85,7 +85,7 @@ pub fn flush(tree: &mut Logged) -> Result<bool, Error> {
 
 /// Whether a key has this value at a snapshot, or none.
 pub fn shows(tree: &Logged, snapshot: u64, key: &str, value: Option<&str>) -> Result<bool, Error> {
-    match tree.tree().get(key.as_bytes(), snapshot)? {
+    match tree.get(key.as_bytes(), snapshot)? {
         Some(found) => Ok(value.is_some_and(|value| found.as_slice() == value.as_bytes())),
         None => Ok(value.is_none()),
     }

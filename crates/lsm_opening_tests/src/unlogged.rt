@@ -42,8 +42,7 @@ fn open_recorded<S: Store>(alloc: Global, config: Config, store: S) -> (S, Opene
 fn open_logged<S: Store>(alloc: Global, config: Config, store: S) -> (S, Opened) {
     match Logged::open(alloc, config, store) {
         Ok(tree) => {
-            let reads = tree.tree();
-            let counters = [reads.seqno().get(), reads.visible_seqno().get()];
+            let counters = [tree.seqno().get(), tree.visible_seqno().get()];
             (tree.into_store(), Ok(counters))
         }
         Err((error, store)) => (store, Err(error)),

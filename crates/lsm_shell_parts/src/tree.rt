@@ -65,7 +65,7 @@ impl<S: SessionStore> SessionTree<S> {
     pub fn get(&mut self, key: &[u8], snapshot: SeqNo) -> Result<Option<UserValue>, Error> {
         match self {
             SessionTree::Plain(alloc, tree) => tree.get(&mut Pass::new(*alloc), key, snapshot),
-            SessionTree::Logged(tree) => tree.tree().get(key, snapshot),
+            SessionTree::Logged(tree) => tree.get(key, snapshot),
         }
     }
 
@@ -76,7 +76,7 @@ impl<S: SessionStore> SessionTree<S> {
     ) -> Result<TreeIter, Error> {
         match self {
             SessionTree::Plain(_, tree) => tree.create_range(bounds, snapshot),
-            SessionTree::Logged(tree) => tree.tree().create_range(bounds, snapshot, None),
+            SessionTree::Logged(tree) => tree.create_range(bounds, snapshot, None),
         }
     }
 

@@ -7,7 +7,7 @@ pub returns-in-Ok-clause-ok : goal.returns-in-Ok-clause-ok
 returns-in-Ok-clause-ok g c =
     let registered = c.register_noting-entries in
     rw c.of_registered.ensures
-    (registered_taken c.in-Some-Written.job registered.result.0 registered.result.1.items c.args.place.now c.take.new.self c.args.state.now.core registered.new.tree.core (search rules) (search rules) registered.ensures.registers)
+    (registered_taken c.in-Some-Written.job registered.result.0 registered.result.1.items c.args.place.now c.take.new.self c.args.state.now.core registered.new.tree.core (search rules) (search rules) (rw c.into_job-job.ensures at registered.ensures.registers))
 
 pub returns-in-Ok-clause-files : goal.returns-in-Ok-clause-files
 returns-in-Ok-clause-files g c =
