@@ -1,9 +1,9 @@
 // Two merges of a tree at once: each waits until the other has begun, so that neither holds the lock meanwhile.
 use crate::samples::{set, text};
 use lsm_tree::{
-    Begun, Choice, ChooseError, CompactionJob, CompactionState, CompactionStrategy, Config, Error,
-    Gate, Handle, Input, MemStore, MergedCompaction, Op, TableId, Tree, TreeState, UserKey,
-    Version,
+    Choice, ChooseError, CompactionJob, CompactionState, CompactionStrategy, Config, Error,
+    Finished, Gate, Handle, Input, MemStore, MergedCompaction, Op, TableId, Tree, TreeState,
+    UserKey, Version,
 };
 use std::alloc::{AllocError, Global};
 use std::collections::HashSet;
@@ -99,7 +99,7 @@ fn merges<R: Wait>(
 ) -> bool {
     let gate = Meets { rt, own, other };
     let told = tree.compact_gated(rt, &One { id }, 0, &gate);
-    matches!(told, Ok(Begun::Installed))
+    matches!(told, Ok(Some(Finished::Installed)))
 }
 
 /// Merges both tables at once: whether both merges are installed.

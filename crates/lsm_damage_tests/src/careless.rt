@@ -1,8 +1,8 @@
 // A boxed strategy that answers anything. Nothing halts, and only a drop changes what is read.
 use crate::samples::{open_new, set};
 use lsm_state::{
-    Begun, Choice, ChooseError, CompactionState, CompactionStrategy, Config, Error, Input, TableId,
-    TreeState, Version, Why,
+    Choice, ChooseError, CompactionState, CompactionStrategy, Config, Error, Finished, Input,
+    TableId, TreeState, Version, Why,
 };
 use std::alloc::{AllocError, Global};
 use std::collections::HashSet;
@@ -76,17 +76,15 @@ enum Told {
     Nothing,
     Declined(Why),
     Installed,
-    Job,
     /// The number of the error.
     Refused(u8),
 }
 
-fn tell(begun: Result<Begun, Error>) -> Told {
-    match begun {
-        Ok(Begun::DidNothing) => Told::Nothing,
-        Ok(Begun::Declined(why)) => Told::Declined(why),
-        Ok(Begun::Installed) => Told::Installed,
-        Ok(Begun::Job(_)) => Told::Job,
+fn tell(done: Result<Option<Finished>, Error>) -> Told {
+    match done {
+        Ok(None) => Told::Nothing,
+        Ok(Some(Finished::Declined(why))) => Told::Declined(why),
+        Ok(Some(Finished::Installed)) => Told::Installed,
         Err(error) => Told::Refused(error.number()),
     }
 }

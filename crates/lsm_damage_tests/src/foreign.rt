@@ -2,18 +2,30 @@
 use crate::careless::{all_ids, into_level, open_with_two};
 use crate::samples::{open, text};
 use lsm_state::{
-    Begun, Choice, Error, Finished, MergedCompaction, Op, Options, TreeState, Why, WrittenFlush,
+    Begun, Choice, CompactionJob, Error, Finished, MergedCompaction, Op, Options, TreeState, Why,
+    WrittenFlush,
 };
 use std::alloc::Global;
 use std::test::Fail;
+
+/// Does a merge; refused, it is given up.
+fn merge(tree: &mut TreeState, job: CompactionJob) -> Result<MergedCompaction, Error> {
+    match job.run() {
+        Ok(merged) => Ok(merged),
+        Err((error, job)) => {
+            tree.abandon_compaction(job);
+            Err(error)
+        }
+    }
+}
 
 /// A merge of both tables into the last level that is begun and run.
 fn begin_merge(alloc: Global, tree: &mut TreeState) -> Result<MergedCompaction, Error> {
     let ids = all_ids(alloc, tree.current_version())?;
     let options = Options::from_tree(tree);
     match tree.begin_choice(Choice::Merge(into_level(ids, 6)), options)? {
-        Begun::Job(job) => job.run().map_err(|refused| refused.0),
-        _ => Err(Error::Store),
+        Begun::Job(job) => merge(tree, job),
+        Begun::DidNothing | Begun::Declined(_) | Begun::Installed => Err(Error::Store),
     }
 }
 
@@ -30,13 +42,22 @@ fn is_hidden(tree: &TreeState) -> bool {
     tree.is_compacting() && hidden.is_hidden(0) && hidden.is_hidden(1)
 }
 
+/// Whether a merge of both tables is begun and run, and given up.
+fn begins_merge(alloc: Global, tree: &mut TreeState) -> bool {
+    match begin_merge(alloc, tree) {
+        Ok(merged) => {
+            tree.abandon_compaction(merged.into_job());
+            true
+        }
+        Err(_) => false,
+    }
+}
+
 /// Whether all is free in a tree that is opened again.
 fn is_free_again(alloc: Global, tree: TreeState) -> bool {
     match open(alloc, 10, tree.into_store()) {
         Ok(mut again) => {
-            let merged = begin_merge(alloc, &mut again);
-            let is_free = merged.is_ok();
-            drop(merged);
+            let is_free = begins_merge(alloc, &mut again);
             drop(again);
             is_free
         }
@@ -52,7 +73,10 @@ fn is_unknown_elsewhere(alloc: Global, merged: MergedCompaction) -> bool {
             drop(other);
             unknown
         }
-        Err(_) => false,
+        Err(_) => {
+            drop(merged.keep());
+            false
+        }
     }
 }
 
@@ -88,8 +112,15 @@ fn write_tables(alloc: Global, tree: &mut TreeState) -> Result<WrittenFlush, Err
     let Some(job) = tree.begin_flush()? else {
         return Err(Error::Store);
     };
-    let merged = job.run(0).map_err(|refused| refused.0)?;
-    tree.flush_to_tables(merged).map_err(|refused| refused.0)
+    let (error, job) = match job.run(0) {
+        Ok(merged) => match tree.flush_to_tables(merged) {
+            Ok(written) => return Ok(written),
+            Err((error, merged)) => (error, merged.into_job()),
+        },
+        Err(refused) => refused,
+    };
+    tree.abandon_flush(job);
+    Err(error)
 }
 
 /// Whether a flush of another tree isn't installed here, and changes nothing.
@@ -100,8 +131,19 @@ fn is_stale(tree: &mut TreeState, written: WrittenFlush) -> bool {
         && tree.sealed_memtable_count() == 1
 }
 
+/// Whether a flush begins, which is given up.
+fn begins_flush(tree: &mut TreeState) -> Result<bool, Error> {
+    match tree.begin_flush()? {
+        Some(job) => {
+            tree.abandon_flush(job);
+            Ok(true)
+        }
+        None => Ok(false),
+    }
+}
+
 fn is_flush_open(tree: &mut TreeState) -> bool {
-    matches!(tree.begin_flush(), Err(Error::FlushOpen))
+    matches!(begins_flush(tree), Err(Error::FlushOpen))
 }
 
 /// Whether a tree that is opened again flushes.
@@ -109,10 +151,10 @@ fn flushes_again(alloc: Global, tree: TreeState) -> Result<bool, Error> {
     match open(alloc, 10, tree.into_store()) {
         Ok(mut again) => {
             let sealed = seal(alloc, &mut again);
-            let is_free = matches!(again.begin_flush(), Ok(Some(_)));
+            let is_free = begins_flush(&mut again);
             drop(again);
             sealed?;
-            Ok(is_free)
+            is_free
         }
         Err((error, _)) => Err(error),
     }
@@ -122,11 +164,15 @@ fn flushes_again(alloc: Global, tree: TreeState) -> Result<bool, Error> {
 fn is_stale_elsewhere(alloc: Global, written: WrittenFlush) -> bool {
     match open_with_two(alloc) {
         Ok(mut other) => {
-            let stale = seal(alloc, &mut other).is_ok() && is_stale(&mut other, written);
+            let is_sealed = seal(alloc, &mut other).is_ok();
+            let stale = is_stale(&mut other, written);
             drop(other);
-            stale
+            is_sealed && stale
         }
-        Err(_) => false,
+        Err(_) => {
+            drop(written.keep());
+            false
+        }
     }
 }
 

@@ -5,7 +5,7 @@
 use crate::{open, text};
 use anyhow::Result;
 use lsm_tree::{
-    Begun, Choice, ChooseError, CompactionState, CompactionStrategy, Config, Input, Op, TableId,
+    Choice, ChooseError, CompactionState, CompactionStrategy, Config, Finished, Input, Op, TableId,
     TreeState, Version,
 };
 use std::alloc::{AllocError, Global};
@@ -76,12 +76,11 @@ impl CompactionStrategy for MergeAtRuns {
     }
 }
 
-fn print_begun(rt: &impl Print, begun: Begun) -> Result<()> {
-    match begun {
-        Begun::DidNothing => println!(rt; "nothing to do")?,
-        Begun::Declined(why) => println!(rt; "declined: {why:?}")?,
-        Begun::Installed => println!(rt; "installed")?,
-        Begun::Job(_) => println!(rt; "a merge is open")?,
+fn print_done(rt: &impl Print, done: Option<Finished>) -> Result<()> {
+    match done {
+        None => println!(rt; "nothing to do")?,
+        Some(Finished::Declined(why)) => println!(rt; "declined: {why:?}")?,
+        Some(Finished::Installed) => println!(rt; "installed")?,
     }
     Ok(())
 }
@@ -102,14 +101,14 @@ fn show(rt: &impl Print, alloc: Global, tree: &mut TreeState) -> Result<()> {
     for _ in 0..3 {
         add_table(alloc, tree, "a")?;
         let watermark = tree.visible_seqno().get();
-        print_begun(rt, tree.compact(&strategy, watermark)?)?;
+        print_done(rt, tree.compact(&strategy, watermark)?)?;
     }
     // There is no such table.
     let wrong = MergeAtRuns {
         runs: 0,
         guessed: Some(1_000),
     };
-    print_begun(rt, tree.compact(&wrong, 0)?)?;
+    print_done(rt, tree.compact(&wrong, 0)?)?;
     println!(rt;
         "tables {}, entries {}",
         tree.table_count(),

@@ -13,7 +13,7 @@ use Rattle.lsm_runs.specs.declared.steps.Reply.TheVariants.{Begun, Done, Registe
 use Rattle.lsm_runs.specs.Compacting.{Strategies, reply_of, job_of, end_reply_of, HasNoCompacted, TakesRunCompaction}
 use Rattle.lsm_runs.specs.Flushing.{HasNoMerged, HasNoWritten, TakesRun}
 use Rattle.lsm_runs.specs.Slots.{flush_in, merge_in}
-use Rattle.lsm_state.specs.Compactions.{BeginsCompaction, Finishes, Spends}
+use Rattle.lsm_state.specs.Compactions.{BeginsCompaction, Spends}
 use Rattle.lsm_state.specs.Flushes.{spent}
 use Rattle.lsm_state.specs.declared.compaction.Begun.{Begun as HowBegun}
 use Rattle.lsm_state.specs.declared.compaction.Finished.{Finished}

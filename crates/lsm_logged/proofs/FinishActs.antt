@@ -15,14 +15,13 @@ use Rattle.lsm_versions.specs.Levels.{SeenVersion, placed_in}
 use Rattle.lsm_log_model.specs.Logs.{Logged as Log, IsCertain, MayBeDrawn, Did, CommitLost}
 use Rattle.lsm_state.specs.declared.compaction.Finished.{Finished}
 use Rattle.lsm_state.specs.declared.compaction.Finished.TheVariants.{Installed as Whole}
-use Rattle.lsm_state.specs.Core.{Core, state_of}
+use Rattle.lsm_state.specs.Core.{state_of}
 use Rattle.lsm_state.specs.Kept.{IsKeptTree}
 use Rattle.lsm_state.specs.Commits.{Upholds}
 use Rattle.lsm_state.specs.Deeds.{saved_of, HasOrder, IsNoDeed}
 use Rattle.lsm_state.specs.Compactions.{Finishes}
 use Rattle.lsm_state.specs.CompactionDeeds.{IsMarkedIn, merge_of, IsMergeDeed, IsLostMerge, MergeDeeds, CompactionsAreDeeds}
 use Rattle.lsm_logged.specs.Keeping.{SeenLogged, IsLogOf, KeepsLog}
-use Rattle.lsm_logged.specs.Removing.{log_from_of}
 use Rattle.lsm_logged.specs.Acting.{ActsNot, LeadsBy, ActsByMerge, MergesAct}
 use Rattle.lsm_logged.proofs.Led.{Lifted, kept_up, unknown, told_last, last_install, is_certain, leads_passing, leads_nowhere}
 use Rattle.lsm_logged.proofs.Merged.{IsOver, IsIn, IsInDoubt, is_in, in_doubt, over}

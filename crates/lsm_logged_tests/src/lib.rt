@@ -5,6 +5,7 @@
 //! | `records` | the bytes of records |
 //! | `putting` | records that are put, read and removed, and what a crash leaves of them |
 //! | `logs` | batches that come back, outcomes that are unknown, and records that are removed |
+//! | `jobs` | jobs that are to end after an unknown outcome |
 //! | `formats` | a log beside a version in format 3 |
 //! | `lives` | three lives in which any one store call fails, and what crashes leave after them |
 //! | `trees` | holds no test: logged trees, and what they show |
@@ -12,6 +13,8 @@
 
 #[cfg(test)]
 mod formats;
+#[cfg(test)]
+mod jobs;
 #[cfg(test)]
 mod lives;
 #[cfg(test)]

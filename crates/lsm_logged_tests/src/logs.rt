@@ -185,7 +185,7 @@ fn doubtful(alloc: Global) -> Result<Logged, Error> {
 }
 
 /// Whether its first write has unknown outcome, and it is shut then.
-fn doubt(alloc: Global, tree: &mut Logged) -> bool {
+pub fn doubt(alloc: Global, tree: &mut Logged) -> bool {
     let first = matches!(
         write(alloc, tree, "a", Some("x")),
         Err(Error::CommitUnknown)

@@ -6,7 +6,7 @@
 
 use crate::samples::{Changes, change, has_just};
 use lsm_manifest::{FormatVersion, Manifest, recover};
-use lsm_state::{Begun, Config, Error, MemStore, Op, SeqNo, Store, TreeState, UserKey};
+use lsm_state::{Config, Error, Finished, MemStore, Op, SeqNo, Store, TreeState, UserKey};
 use std::alloc::Global;
 use std::test::Fail;
 
@@ -131,7 +131,7 @@ fn make_commit(alloc: Global, tree: &mut TreeState, call: Commit) -> Result<bool
             tree.rotate_memtable()?;
             Ok(number == 8 && tree.flush(0)?.is_some())
         }
-        Commit::Merge => Ok(matches!(tree.major_compact(1_000, 0)?, Begun::Installed)),
+        Commit::Merge => Ok(tree.major_compact(1_000, 0)? == Some(Finished::Installed)),
         Commit::Clear => Ok(tree.clear()? == 8),
     }
 }

@@ -134,14 +134,17 @@ fn each_call_of_a_flush_is_refused(rt: HostRuntime) -> Result<(), Fail> {
 
 // ---- files
 
+/// Tables that are written for a job; refused, it is given up.
 fn write_merged(tree: &mut Tree, job: FlushJob) -> Result<WrittenFlush, Error> {
-    match job.run(0) {
+    let (error, job) = match job.run(0) {
         Ok(merged) => match tree.flush_to_tables(merged) {
-            Ok(written) => Ok(written),
-            Err((error, _)) => Err(error),
+            Ok(written) => return Ok(written),
+            Err((error, merged)) => (error, merged.into_job()),
         },
-        Err((error, _)) => Err(error),
-    }
+        Err(refused) => refused,
+    };
+    tree.abandon_flush(job);
+    Err(error)
 }
 
 /// Tables that are written for all that is sealed, if anything is.

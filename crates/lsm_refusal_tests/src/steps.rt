@@ -1,5 +1,6 @@
 // Calls on a tree as rows of data, and what each answers.
 use crate::store::RefusingStore;
+use lsm_compaction::KeptCompaction;
 use lsm_state::{
     Begun, Choice, CompactionJob, Config, Error, Finished, Input, Leveled, Op, Options,
     OwnedBounds, SeqNo, TableId, TreeState, UserKey, Why,
@@ -14,7 +15,7 @@ pub type Tree = TreeState<RefusingStore>;
 #[derive(Drop)]
 pub struct Player {
     pub tree: Tree,
-    pub job: Option<CompactionJob>,
+    pub job: Option<KeptCompaction>,
 }
 
 /// A call on a tree.
@@ -94,12 +95,11 @@ fn flush(tree: &mut Tree, watermark: SeqNo) -> Result<Told, Error> {
 
 // ---- compactions
 
-fn tell(begun: Begun) -> Told {
-    match begun {
-        Begun::DidNothing => Told::Nothing,
-        Begun::Declined(why) => Told::Declined(why),
-        Begun::Installed => Told::Installed,
-        Begun::Job(_) => Told::Job,
+fn tell(done: Option<Finished>) -> Told {
+    match done {
+        None => Told::Nothing,
+        Some(Finished::Declined(why)) => Told::Declined(why),
+        Some(Finished::Installed) => Told::Installed,
     }
 }
 
@@ -130,10 +130,12 @@ fn begin(alloc: Global, player: &mut Player) -> Result<Told, Error> {
     let options = Options::from_tree(&player.tree);
     match player.tree.begin_choice(Choice::Merge(input), options)? {
         Begun::Job(job) => {
-            player.job = Some(job);
+            player.job = Some(job.keep());
             Ok(Told::Job)
         }
-        begun => Ok(tell(begun)),
+        Begun::DidNothing => Ok(Told::Nothing),
+        Begun::Declined(why) => Ok(Told::Declined(why)),
+        Begun::Installed => Ok(Told::Installed),
     }
 }
 
@@ -152,7 +154,7 @@ fn finish_job(tree: &mut Tree, job: CompactionJob) -> Result<Told, Error> {
 
 fn finish(player: &mut Player) -> Result<Told, Error> {
     match player.job.take() {
-        Some(job) => finish_job(&mut player.tree, job),
+        Some(job) => finish_job(&mut player.tree, job.into_job()),
         None => Ok(Told::Nothing),
     }
 }
@@ -160,7 +162,7 @@ fn finish(player: &mut Player) -> Result<Told, Error> {
 /// Gives up the merge that waits.
 pub fn give_up(player: &mut Player) {
     if let Some(job) = player.job.take() {
-        player.tree.abandon_compaction(job);
+        player.tree.abandon_compaction(job.into_job());
     }
 }
 

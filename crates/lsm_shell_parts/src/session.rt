@@ -4,7 +4,9 @@ use crate::command::{Command, Plan, parse};
 use crate::reply::Reply;
 use crate::tree::SessionTree;
 use lsm_below::{SeqNo, UserKey};
-use lsm_tree::{Begun, Error, Fifo, Leveled, Major, Op, OwnedBounds, TreeState, prefix_to_range};
+use lsm_tree::{
+    Error, Fifo, Finished, Leveled, Major, Op, OwnedBounds, TreeState, prefix_to_range,
+};
 use std::alloc::{AllocError, Global};
 use std::ops::Bound;
 
@@ -222,12 +224,12 @@ fn compact<S: SessionStore>(
     }
 }
 
-/// What came of a compaction in one call, which hands out no job.
-fn told(begun: Result<Begun, Error>) -> Result<Reply, Error> {
-    Ok(match begun? {
-        Begun::Installed => Reply::Word("installed"),
-        Begun::Declined(why) => Reply::Declined(why),
-        Begun::DidNothing | Begun::Job(_) => Reply::Word("nothing"),
+/// What came of a compaction in one call.
+fn told(done: Result<Option<Finished>, Error>) -> Result<Reply, Error> {
+    Ok(match done? {
+        Some(Finished::Installed) => Reply::Word("installed"),
+        Some(Finished::Declined(why)) => Reply::Declined(why),
+        None => Reply::Word("nothing"),
     })
 }
 

@@ -2,8 +2,8 @@
 use crate::cause::{SessionStore, Unopened};
 use lsm_below::{MemtableId, SeqNo, UserKey, UserValue};
 use lsm_tree::{
-    Begun, CompactionStrategy, Config, Error, Logged, Op, OwnedBounds, Pass, Recorded, Registered,
-    TreeIter, TreeState,
+    CompactionStrategy, Config, Error, Finished, Logged, Op, OwnedBounds, Pass, Recorded,
+    Registered, TreeIter, TreeState,
 };
 use std::alloc::Global;
 use std::ops::Bound;
@@ -108,7 +108,7 @@ impl<S: SessionStore> SessionTree<S> {
         &mut self,
         strategy: &dyn CompactionStrategy,
         watermark: SeqNo,
-    ) -> Result<Begun, Error> {
+    ) -> Result<Option<Finished>, Error> {
         match self {
             SessionTree::Plain(alloc, tree) => {
                 tree.compact(&mut Pass::new(*alloc), strategy, watermark)
@@ -117,7 +117,7 @@ impl<S: SessionStore> SessionTree<S> {
         }
     }
 
-    pub fn drop_range(&mut self, bounds: OwnedBounds) -> Result<Begun, Error> {
+    pub fn drop_range(&mut self, bounds: OwnedBounds) -> Result<Option<Finished>, Error> {
         match self {
             SessionTree::Plain(alloc, tree) => tree.drop_range(&mut Pass::new(*alloc), bounds),
             SessionTree::Logged(tree) => tree.drop_range(bounds),

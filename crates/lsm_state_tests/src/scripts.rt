@@ -137,10 +137,14 @@ fn flush_given_up(alloc: Global, tree: &mut TreeState, rows: &[Row]) -> Result<T
     Ok(if right { Told::Nothing } else { Told::Wrong })
 }
 
-fn merged(job: CompactionJob) -> Result<MergedCompaction, Error> {
+/// Does a merge; refused, it is given up.
+fn merged(tree: &mut TreeState, job: CompactionJob) -> Result<MergedCompaction, Error> {
     match job.run() {
         Ok(merged) => Ok(merged),
-        Err((error, _)) => Err(error),
+        Err((error, job)) => {
+            tree.abandon_compaction(job);
+            Err(error)
+        }
     }
 }
 
@@ -159,16 +163,26 @@ fn merge_over(
     then: &[Row],
 ) -> Result<Told, Error> {
     let before = plays(alloc, tree, first);
-    let merged = merged(job)?;
+    let merged = merged(tree, job)?;
     let right = plays(alloc, tree, then) && before;
     let told = finished(tree, merged)?;
     Ok(if right { told } else { Told::Wrong })
 }
 
 /// A merge is finished in a new tree.
-fn finished_elsewhere(alloc: Global, job: CompactionJob) -> Result<Told, Error> {
-    let mut other = open(alloc, 0, MemStore::new(alloc))?;
-    let told = match merged(job) {
+fn finished_elsewhere(
+    alloc: Global,
+    tree: &mut TreeState,
+    job: CompactionJob,
+) -> Result<Told, Error> {
+    let mut other = match open(alloc, 0, MemStore::new(alloc)) {
+        Ok(other) => other,
+        Err(error) => {
+            tree.abandon_compaction(job);
+            return Err(error);
+        }
+    };
+    let told = match merged(tree, job) {
         Ok(merged) => finished(&mut other, merged),
         Err(error) => Err(error),
     };
@@ -189,7 +203,7 @@ fn ended(
             tree.abandon_compaction(job);
             Ok(if right { Told::Nothing } else { Told::Wrong })
         }
-        End::Elsewhere => finished_elsewhere(alloc, job),
+        End::Elsewhere => finished_elsewhere(alloc, tree, job),
     }
 }
 
@@ -218,7 +232,7 @@ fn ended_if_begun(
 ) -> Result<Told, Error> {
     match begun {
         Begun::Job(job) => ended(alloc, tree, job, end),
-        _ => Ok(Told::Wrong),
+        Begun::DidNothing | Begun::Declined(_) | Begun::Installed => Ok(Told::Wrong),
     }
 }
 

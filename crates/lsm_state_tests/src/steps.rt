@@ -103,7 +103,10 @@ fn done(answer: Result<(), Error>) -> Told {
 
 fn is_job(answer: Result<Option<FlushJob>, Error>) -> Told {
     match answer {
-        Ok(Some(_)) => Told::Job,
+        Ok(Some(job)) => {
+            drop(job.keep());
+            Told::Job
+        }
         Ok(None) => Told::Nothing,
         Err(error) => Told::Refused(error.number()),
     }
@@ -138,7 +141,7 @@ fn insert_long(alloc: Global, tree: &mut TreeState, len: usize) -> Result<(u64, 
 
 // ---- flushes
 
-/// Merges a job and writes its tables.
+/// Merges a job and writes its tables; refused, it is given up.
 pub fn written(
     tree: &mut TreeState,
     job: FlushJob,
@@ -146,11 +149,17 @@ pub fn written(
 ) -> Result<WrittenFlush, Error> {
     let merged = match job.run(watermark) {
         Ok(merged) => merged,
-        Err((error, _)) => return Err(error),
+        Err((error, job)) => {
+            tree.abandon_flush(job);
+            return Err(error);
+        }
     };
     match tree.flush_to_tables(merged) {
         Ok(written) => Ok(written),
-        Err((error, _)) => Err(error),
+        Err((error, merged)) => {
+            tree.abandon_flush(merged.into_job());
+            Err(error)
+        }
     }
 }
 

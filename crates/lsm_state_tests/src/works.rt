@@ -2,8 +2,8 @@
 use crate::samples::{Edge, bounds};
 use crate::steps::Told;
 use lsm_state::{
-    Begun, Choice, ChooseError, CompactionState, CompactionStrategy, Config, Error, Fifo, Input,
-    Leveled, Options, OwnedBounds, SeqNo, TableId, TreeState, Version,
+    Begun, Choice, ChooseError, CompactionState, CompactionStrategy, Config, Error, Fifo, Finished,
+    Input, Leveled, Options, OwnedBounds, SeqNo, TableId, TreeState, Version,
 };
 use std::alloc::{AllocError, Global};
 use std::collections::HashSet;
@@ -96,11 +96,15 @@ impl CompactionStrategy for Chooser {
     }
 }
 
-fn leveled(alloc: Global, tree: &mut TreeState, watermark: SeqNo) -> Result<Begun, Error> {
+fn leveled(
+    alloc: Global,
+    tree: &mut TreeState,
+    watermark: SeqNo,
+) -> Result<Option<Finished>, Error> {
     tree.compact(&Leveled::new(alloc)?, watermark)
 }
 
-fn level_small(alloc: Global, tree: &mut TreeState) -> Result<Begun, Error> {
+fn level_small(alloc: Global, tree: &mut TreeState) -> Result<Option<Finished>, Error> {
     let small = Leveled::new(alloc)?
         .with_table_target_size(1)
         .with_l0_threshold(2)
@@ -108,36 +112,49 @@ fn level_small(alloc: Global, tree: &mut TreeState) -> Result<Begun, Error> {
     tree.compact(&small, 0)
 }
 
-fn begun(alloc: Global, tree: &mut TreeState, work: &Work) -> Result<Begun, Error> {
+/// What became of a compaction in one call.
+fn ended(done: Result<Option<Finished>, Error>) -> Result<Told, Error> {
+    match done? {
+        None => Ok(Told::Nothing),
+        Some(Finished::Declined(why)) => Ok(Told::Declined(why)),
+        Some(Finished::Installed) => Ok(Told::Installed),
+    }
+}
+
+/// What became of a choice.
+fn began(begun: Result<Begun, Error>) -> Result<Told, Error> {
+    match begun? {
+        Begun::DidNothing => Ok(Told::Nothing),
+        Begun::Declined(why) => Ok(Told::Declined(why)),
+        Begun::Installed => Ok(Told::Installed),
+        Begun::Job(job) => {
+            drop(job.keep());
+            Ok(Told::Job)
+        }
+    }
+}
+
+pub fn compact(alloc: Global, tree: &mut TreeState, work: &Work) -> Result<Told, Error> {
     match work {
-        Work::Major(watermark) => tree.major_compact(u64::MAX, *watermark),
-        Work::Leveled(watermark) => leveled(alloc, tree, *watermark),
-        Work::Small => level_small(alloc, tree),
+        Work::Major(watermark) => ended(tree.major_compact(u64::MAX, *watermark)),
+        Work::Leveled(watermark) => ended(leveled(alloc, tree, *watermark)),
+        Work::Small => ended(level_small(alloc, tree)),
         Work::Fifo(limit, ttl, watermark) => {
             let fifo = Fifo::new(*limit, *ttl, tree.moment());
-            tree.compact(&fifo, *watermark)
+            ended(tree.compact(&fifo, *watermark))
         }
         Work::DropRange(low, high) => {
             let (start, end) = bounds(low, high);
-            tree.drop_range(OwnedBounds { start, end })
+            ended(tree.drop_range(OwnedBounds { start, end }))
         }
-        Work::Choose(kind, list, to) => choose(alloc, tree, kind, list, *to),
+        Work::Choose(kind, list, to) => began(choose(alloc, tree, kind, list, *to)),
         Work::Ask(kind, list, to) => {
             let chooser = Chooser {
                 kind: *kind,
                 list: *list,
                 to: *to,
             };
-            tree.compact(&chooser, 0)
+            ended(tree.compact(&chooser, 0))
         }
-    }
-}
-
-pub fn compact(alloc: Global, tree: &mut TreeState, work: &Work) -> Result<Told, Error> {
-    match begun(alloc, tree, work)? {
-        Begun::DidNothing => Ok(Told::Nothing),
-        Begun::Declined(why) => Ok(Told::Declined(why)),
-        Begun::Installed => Ok(Told::Installed),
-        Begun::Job(_) => Ok(Told::Job),
     }
 }

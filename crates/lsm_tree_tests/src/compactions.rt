@@ -32,11 +32,22 @@ fn everything() -> OwnedBounds {
 fn job_of(begun: Begun) -> Result<CompactionJob, Error> {
     match begun {
         Begun::Job(job) => Ok(job),
-        _ => Err(Error::Unrecoverable),
+        Begun::DidNothing | Begun::Declined(_) | Begun::Installed => Err(Error::Unrecoverable),
     }
 }
 
 // ---- a shared tree
+
+/// Does a merge and ends it; refused, it is given up.
+fn end_merge(rt: &impl Wait, tree: &Tree, job: CompactionJob) -> Result<Finished, Error> {
+    match job.run() {
+        Ok(merged) => tree.finish_compaction(rt, merged),
+        Err((error, job)) => {
+            tree.abandon_compaction(rt, job);
+            Err(error)
+        }
+    }
+}
 
 /// Two tables are merged with no lock held, while a = z is written.
 fn merge_in_parts(rt: &impl Wait, alloc: Global, tree: &Tree) -> Result<Finished, Error> {
@@ -44,13 +55,14 @@ fn merge_in_parts(rt: &impl Wait, alloc: Global, tree: &Tree) -> Result<Finished
     set_in_table(rt, alloc, tree, "a", "y")?;
     let begun = tree.begin_compaction(rt, &Major::new(u64::MAX), at(0))?;
     let job = job_of(begun)?;
-    if !tree.is_compacting(rt) {
-        return Err(Error::Unrecoverable);
-    }
-    set(rt, alloc, tree, "a", "z")?;
-    match job.run() {
-        Ok(merged) => tree.finish_compaction(rt, merged),
-        Err((error, _)) => Err(error),
+    let is_open = tree.is_compacting(rt);
+    let written = set(rt, alloc, tree, "a", "z");
+    let finished = end_merge(rt, tree, job)?;
+    written?;
+    if is_open {
+        Ok(finished)
+    } else {
+        Err(Error::Unrecoverable)
     }
 }
 
@@ -106,13 +118,26 @@ fn drop_both(alloc: Global) -> Result<Choice, Error> {
     Ok(Choice::Drop(ids))
 }
 
+/// How a choice to drop them ended. A job would be given up.
+fn end_drop(rt: &impl Wait, alloc: Global, tree: &Tree) -> Result<Option<Finished>, Error> {
+    match tree.begin_choice(rt, drop_both(alloc)?, at(0))? {
+        Begun::DidNothing => Ok(None),
+        Begun::Declined(why) => Ok(Some(Finished::Declined(why))),
+        Begun::Installed => Ok(Some(Finished::Installed)),
+        Begun::Job(job) => {
+            tree.abandon_compaction(rt, job);
+            Ok(None)
+        }
+    }
+}
+
 /// A choice of the caller's own: declined while a table of it isn't there, and then done.
 fn does_choices(rt: &impl Wait, alloc: Global, tree: &Tree) -> Result<bool, Error> {
     set_in_table(rt, alloc, tree, "a", "x")?;
-    let missing = tree.begin_choice(rt, drop_both(alloc)?, at(0))?;
-    let is_declined = matches!(missing, Begun::Declined(Why::Missing));
+    let missing = end_drop(rt, alloc, tree)?;
+    let is_declined = missing == Some(Finished::Declined(Why::Missing));
     set_in_table(rt, alloc, tree, "b", "y")?;
-    let drops = is_installed(&tree.begin_choice(rt, drop_both(alloc)?, at(0)));
+    let drops = is_installed(&end_drop(rt, alloc, tree));
     Ok(is_declined && drops && tree.table_count(rt) == 0)
 }
 
@@ -127,6 +152,18 @@ fn a_shared_tree_does_a_choice(rt: HostRuntime) -> Result<(), Fail> {
 
 // ---- with a journal
 
+/// Does a merge and ends it; refused, it is given up.
+fn record_end(caller: &mut Caller<'_, impl Wait>, job: CompactionJob) -> Result<Finished, Error> {
+    let (rt, tree, pass) = caller.parts();
+    match job.run() {
+        Ok(merged) => tree.finish_compaction(rt, pass, merged),
+        Err((error, job)) => {
+            tree.abandon_compaction(rt, pass, job);
+            Err(error)
+        }
+    }
+}
+
 /// Two tables are merged in parts, with a write in between.
 fn record_merge(caller: &mut Caller<'_, impl Wait>) -> Result<bool, Error> {
     caller.set_in_table("x")?;
@@ -134,10 +171,10 @@ fn record_merge(caller: &mut Caller<'_, impl Wait>) -> Result<bool, Error> {
     let major = Major::new(u64::MAX);
     let (rt, tree, pass) = caller.parts();
     let job = job_of(tree.begin_compaction(rt, pass, &major, at(0))?)?;
-    caller.set("z")?;
-    let merged = job.run().map_err(|refused| refused.0)?;
-    let (rt, tree, pass) = caller.parts();
-    let finished = tree.finish_compaction(rt, pass, merged)?;
+    let written = caller.set("z");
+    let finished = record_end(caller, job)?;
+    written?;
+    let (rt, tree, _) = caller.parts();
     Ok(finished == Finished::Installed && !tree.is_compacting(rt))
 }
 
@@ -235,6 +272,17 @@ fn record_alone(
     }
 }
 
+/// Does a merge and ends it; refused, it is given up.
+fn end_alone(tree: &mut Recorded, pass: &mut Pass, job: CompactionJob) -> Result<Finished, Error> {
+    match job.run() {
+        Ok(merged) => tree.finish_compaction(pass, merged),
+        Err((error, job)) => {
+            tree.abandon_compaction(pass, job);
+            Err(error)
+        }
+    }
+}
+
 /// Each call once: a merge that is given up, one in parts, and those in one call.
 fn compacts_alone(alloc: Global, tree: &mut Recorded, pass: &mut Pass) -> Result<bool, Error> {
     record_alone(alloc, tree, pass, "x")?;
@@ -242,8 +290,7 @@ fn compacts_alone(alloc: Global, tree: &mut Recorded, pass: &mut Pass) -> Result
     let is_open = tree.is_compacting();
     tree.abandon_compaction(pass, job_of(begun)?);
     let begun = tree.begin_compaction(pass, &Major::new(u64::MAX), at(0))?;
-    let merged = job_of(begun)?.run().map_err(|refused| refused.0)?;
-    let finished = tree.finish_compaction(pass, merged)?;
+    let finished = end_alone(tree, pass, job_of(begun)?)?;
     record_alone(alloc, tree, pass, "y")?;
     let merges = is_installed(&tree.compact_with(pass, &Major::new(u64::MAX), at(0)));
     record_alone(alloc, tree, pass, "z")?;

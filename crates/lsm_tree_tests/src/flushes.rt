@@ -25,14 +25,17 @@ fn begin(rt: &impl Wait, tree: &Tree) -> Result<FlushJob, Error> {
     }
 }
 
-/// Merges a job, with no lock held, and writes its tables.
+/// Merges a job, with no lock held, and writes its tables; refused, it is given up.
 fn write_tables(rt: &impl Wait, tree: &Tree, job: FlushJob) -> Result<WrittenFlush, Error> {
-    match job.run(0) {
-        Ok(merged) => tree
-            .flush_to_tables(rt, merged)
-            .map_err(|refused| refused.0),
-        Err((error, _)) => Err(error),
-    }
+    let (error, job) = match job.run(0) {
+        Ok(merged) => match tree.flush_to_tables(rt, merged) {
+            Ok(written) => return Ok(written),
+            Err((error, merged)) => (error, merged.into_job()),
+        },
+        Err(refused) => refused,
+    };
+    tree.abandon_flush(rt, job);
+    Err(error)
 }
 
 /// a = x is flushed in parts, while a = y is written.
@@ -40,8 +43,10 @@ fn flush_in_parts(rt: &impl Wait, alloc: Global, tree: &Tree) -> Result<Register
     set(rt, alloc, tree, "a", "x")?;
     let job = begin(rt, tree)?;
     let written = write_tables(rt, tree, job)?;
-    set(rt, alloc, tree, "a", "y")?;
-    tree.register_tables(rt, written)
+    let set = set(rt, alloc, tree, "a", "y");
+    let registered = tree.register_tables(rt, written)?;
+    set?;
+    Ok(registered)
 }
 
 #[test]
@@ -128,6 +133,20 @@ fn a_shared_tree_tells_what_it_counts(rt: HostRuntime) -> Result<(), Fail> {
 
 // ---- with a journal
 
+/// Flushes a job at watermark 0 in parts; refused, it is given up.
+fn record_job(caller: &mut Caller<'_, impl Wait>, job: FlushJob) -> Result<Registered, Error> {
+    let (rt, tree, pass) = caller.parts();
+    let (error, job) = match job.run(0) {
+        Ok(merged) => match tree.flush_to_tables(rt, pass, merged) {
+            Ok(written) => return tree.register_tables(rt, pass, written),
+            Err((error, merged)) => (error, merged.into_job()),
+        },
+        Err(refused) => refused,
+    };
+    tree.abandon_flush(rt, pass, job);
+    Err(error)
+}
+
 /// a = x is flushed at watermark 0 in parts, a = y in one call at watermark 2.
 fn record_flushes(caller: &mut Caller<'_, impl Wait>) -> Result<bool, Error> {
     caller.set("x")?;
@@ -136,11 +155,7 @@ fn record_flushes(caller: &mut Caller<'_, impl Wait>) -> Result<bool, Error> {
     let Some(job) = tree.begin_flush(rt, pass)? else {
         return Ok(false);
     };
-    let merged = job.run(0).map_err(|refused| refused.0)?;
-    let written = tree
-        .flush_to_tables(rt, pass, merged)
-        .map_err(|refused| refused.0)?;
-    let first = tree.register_tables(rt, pass, written)?;
+    let first = record_job(caller, job)?;
     caller.set("y")?;
     let (rt, tree, pass) = caller.parts();
     match tree.flush_active_memtable(rt, pass, 2) {
@@ -177,9 +192,10 @@ fn gives_up(caller: &mut Caller<'_, impl Wait>) -> bool {
     let is_set = matches!(caller.set("z"), Ok(4));
     let (rt, tree, pass) = caller.parts();
     let is_sealed = matches!(tree.rotate_memtable(rt, pass), Ok(Some(2)));
-    let Ok(Some(job)) = tree.begin_flush(rt, pass) else {
+    let Ok(begun) = tree.begin_flush(rt, pass) else {
         return false;
     };
+    let Some(job) = begun else { return false };
     tree.abandon_flush(rt, pass, job);
     let done = tree.flush(rt, pass, 0);
     is_set && is_sealed && matches!(done, Ok(Some((50, registered))) if is_installed(&registered))

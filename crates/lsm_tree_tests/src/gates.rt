@@ -3,7 +3,9 @@ use crate::samples::{
     Caller, Noted, did_nothing, is_installed, open_shared, set_in_table, share_recorded, shows,
     tells,
 };
-use lsm_tree::{Begun, CompactionJob, Error, Gate, Leveled, Major, MergedCompaction, RunJob, Tree};
+use lsm_tree::{
+    CompactionJob, Error, Finished, Gate, Leveled, Major, MergedCompaction, RunJob, Tree,
+};
 use std::alloc::{AllocError, Global};
 use std::sync::{Arc, Mutex, Wait};
 use std::test::Fail;
@@ -19,8 +21,8 @@ impl Gate for Closed {
     }
 }
 
-fn is_given_back(begun: &Result<Begun, Error>) -> bool {
-    matches!(begun, Err(Error::OutOfMemory))
+fn is_given_back(done: &Result<Option<Finished>, Error>) -> bool {
+    matches!(done, Err(Error::OutOfMemory))
 }
 
 // ---- a shared tree

@@ -1,7 +1,7 @@
 // What several tests write, and the trees that they begin with.
 use lsm_tree::{
-    Begun, Closed, Config, Error, Handle, JournalEntry, MemStore, Op, Pass, Recorded, RecordedTree,
-    Tree, TreeState, UserKey,
+    Closed, Config, Error, Finished, Handle, JournalEntry, MemStore, Op, Pass, Recorded,
+    RecordedTree, Tree, TreeState, UserKey,
 };
 use std::alloc::Global;
 use std::sync::Wait;
@@ -73,12 +73,12 @@ pub(crate) fn shows(rt: &impl Wait, tree: &Tree, snapshot: u64, value: &'static 
     }
 }
 
-pub(crate) fn is_installed(begun: &Result<Begun, Error>) -> bool {
-    matches!(begun, Ok(Begun::Installed))
+pub(crate) fn is_installed(done: &Result<Option<Finished>, Error>) -> bool {
+    matches!(done, Ok(Some(Finished::Installed)))
 }
 
-pub(crate) fn did_nothing(begun: &Result<Begun, Error>) -> bool {
-    matches!(begun, Ok(Begun::DidNothing))
+pub(crate) fn did_nothing(done: &Result<Option<Finished>, Error>) -> bool {
+    matches!(done, Ok(None))
 }
 
 // ---- and to one with its journal

@@ -46,7 +46,7 @@ fn merged(
     match job(rt, alloc, version, 3, list, watermark)?.run() {
         Ok(merged) => Ok(merged),
         Err((error, job)) => {
-            drop(job);
+            drop(job.keep());
             Err(error.into())
         }
     }
@@ -76,7 +76,7 @@ fn a_merge_keeps_what_a_snapshot_may_read(rt: HostRuntime) -> Result<(), Fail> {
         let given = &[8, 9][..wanted.len()];
         assert!(&rt; merged.files().len() == given.len());
         let tables = merged.tables(given);
-        drop(merged);
+        drop(merged.keep());
         let tables = tables?;
         let well = are(&tables, wanted);
         drop(tables);
@@ -101,7 +101,7 @@ fn are_open(
         drop(version);
         let job = job?;
         let is_open = merges.is_open(&job);
-        drop(job);
+        drop(job.keep());
         if is_open != *open {
             return Ok(false);
         }
