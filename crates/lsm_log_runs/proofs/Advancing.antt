@@ -38,9 +38,9 @@ use Rattle.lsm_runs.proofs.Members.{in_either}
 use Rattle.lsm_runs.proofs.Readiness.{made_apart}
 use Rattle.lsm_runs.proofs.Resting.{Rests, rotated, spends_rests}
 use Rattle.lsm_log_runs.specs.declared.steps.LogStep.{LogStep}
-use Rattle.lsm_log_runs.specs.declared.steps.LogStep.TheVariants.{Write, Get, Range, Prefix, RotateMemtable, AtSlot, Flush, FlushActiveMemtable, Compact, MajorCompact, DropRange, Clear, SetMoment}
+use Rattle.lsm_log_runs.specs.declared.steps.LogStep.TheVariants.{Write, RotateMemtable, AtSlot, Flush, FlushActiveMemtable, Compact, MajorCompact, DropRange, Clear, GetNextTableId, SetMoment, IsUncertain}
 use Rattle.lsm_log_runs.specs.JobSteps.{TakesBegin, TakesTables, TakesRegister, TakesAbandon, TakesBeginCompaction, TakesFinish, TakesAbandonCompaction, TakesJob}
-use Rattle.lsm_log_runs.specs.Runs.{TakesBatch, TakesFlush, TakesClear, TakesRotate, TakesFlushActive, TakesCompact, TakesMoment, TakesAlone, Takes}
+use Rattle.lsm_log_runs.specs.Runs.{TakesBatch, TakesFlush, TakesClear, TakesRotate, TakesFlushActive, TakesCompact, TakesMoment, TakesTableId, TakesUncertain, TakesAlone, Takes}
 use Rattle.lsm_log_runs.specs.Slots.{LogStage}
 
 -- the versions that a crash may leave stay, or no outcome was unknown and at most one is made
@@ -289,11 +289,17 @@ moment_step : {S : Type 0} (n : ℕ) (r : Reply) (old new : SeenLogged S) → Ta
 moment_step n reply.Done old new t = inl (ap versions_left t.0)
 moment_step n r old new t = absurd t
 
+table_id_step : {S : Type 0} (r : Reply) (old new : SeenLogged S) → TakesTableId r old new → Advances old.core new.core
+table_id_step (reply.Number n) old new t = inl (ap versions_left t.0.1.3)
+table_id_step (reply.Refused x) old new t = same_core old.core new.core t.0.1.1
+table_id_step r old new t = absurd t.0.1
+
+uncertain_step : {S : Type 0} (r : Reply) (old new : SeenLogged S) → TakesUncertain r old new → Advances old.core new.core
+uncertain_step (reply.Truth b) old new t = same_tree old new t.0
+uncertain_step r old new t = absurd t
+
 alone_step : {S : Type 0} (strategies : Strategies) (x : LogStep) (r : Reply) (old new : SeenLogged S) → TakesAlone strategies x r old new → Advances old.core new.core
 alone_step strategies (Write ops) r old new t = batch_step ops r old new t
-alone_step strategies (Get k n) r old new t = same_tree old new t.0
-alone_step strategies (Range low high n) r old new t = same_tree old new t.0
-alone_step strategies (Prefix p n) r old new t = same_tree old new t.0
 alone_step strategies RotateMemtable r old new t = rotate_step r old new t
 alone_step strategies (Flush w) r old new t = flush_step w r old new t
 alone_step strategies (FlushActiveMemtable w) r old new t = active_step w r old new t
@@ -301,8 +307,11 @@ alone_step strategies (Compact at w) r old new t = compact_step strategies at w 
 alone_step strategies (MajorCompact target w) r old new t = asked t.0 old new _ t.2 (λ c. whole_core _ _ _ t.0 old.core new.core c)
 alone_step strategies (DropRange low high) r old new t = asked t.0 old new _ t.2 (λ d. drops_core _ t.0 old.core new.core d)
 alone_step strategies Clear r old new t = clear_step r old new t
+alone_step strategies GetNextTableId r old new t = table_id_step r old new t
 alone_step strategies (SetMoment n) r old new t = moment_step n r old new t
+alone_step strategies IsUncertain r old new t = uncertain_step r old new t
 alone_step strategies (AtSlot slot step) r old new t = absurd t
+alone_step strategies x r old new t = same_tree old new t.0
 
 pub step_advances : {S : Type 0} (strategies : Strategies) (x : LogStep) (r : Reply) (old new : LogStage S) → Takes strategies x r old new → Advances old.tree.core new.tree.core
 step_advances strategies (AtSlot slot step) r old new t = job_step strategies step r (old.jobs slot) (new.jobs slot) old.tree new.tree t.0

@@ -6,18 +6,19 @@ use Rattle.lsm_below.specs.declared.error.Error.TheVariants.{OutOfMemory, Store,
 use Rattle.lsm_store.specs.World.{World}
 use Rattle.lsm_model.specs.Journal.{Event}
 use Rattle.lsm_model.specs.declared.op.Op.{Op}
-use Rattle.lsm_model.specs.declared.question.Question.{Question}
-use Rattle.lsm_iter.specs.Guards.{Pair}
 use Rattle.lsm_commit.specs.Causes.{HasCause, BlamesStore, Blames, no_fault, causes_counted}
 use Rattle.lsm_commit.specs.Stored.{CountsFaults}
 use Rattle.lsm_runs.specs.Causes.{ReplyBlames}
-use Rattle.lsm_runs.specs.Compacting.{TakesRunCompaction, end_reply_of}
+use Rattle.lsm_runs.specs.Compacting.{Strategies, TakesRunCompaction, end_reply_of}
+use Rattle.lsm_runs.specs.Files.{StepHasCause}
 use Rattle.lsm_runs.specs.Flushing.{TakesRun}
-use Rattle.lsm_runs.specs.ReadSteps.{TakesGet, TakesPairs}
-use Rattle.lsm_runs.proofs.Causing.{blames, Blameless, named, batch_reason, read_refusal, from_same}
+use Rattle.lsm_runs.specs.Runs.{TakesAlone as TakesInRun}
+use Rattle.lsm_runs.specs.Told.{Told as Outcome}
+use Rattle.lsm_runs.proofs.Causing.{blames, Blameless, named, batch_reason, from_same, alone_cause}
 use Rattle.lsm_runs.specs.declared.slots.Job.{Job}
 use Rattle.lsm_runs.specs.declared.steps.Reply.{Reply}
-use Rattle.lsm_runs.specs.declared.steps.Reply.TheVariants.{Begun as BegunReply, Done, NoJob, SlotInUse, Sealed, Value, Pairs, Refused}
+use Rattle.lsm_runs.specs.declared.steps.Step.{Step}
+use Rattle.lsm_runs.specs.declared.steps.Reply.TheVariants.{Begun as BegunReply, Number, Truth, Done, NoJob, SlotInUse, Sealed, Refused}
 use Rattle.lsm_state.specs.Core.{Core}
 use Rattle.lsm_state.specs.Refusals.{batch_refusal}
 use Rattle.lsm_state.specs.Flushes.{sealed_ids}
@@ -27,7 +28,7 @@ use Rattle.lsm_logged.specs.Keeping.{SeenLogged, is_unsure}
 use Rattle.lsm_logged.specs.Writing.{WritesLogged}
 use Rattle.lsm_log_runs.specs.Causes.{EachHasCause}
 use Rattle.lsm_log_runs.specs.JobSteps.{TakesBegin, TakesAbandon, TakesAbandonCompaction}
-use Rattle.lsm_log_runs.specs.Runs.{TakesRotate, TakesMoment}
+use Rattle.lsm_log_runs.specs.Runs.{TakesRotate, TakesMoment, TakesTableId}
 
 -- a reply that doesn't blame it, of a call that leaves the store
 module _ {S : Type 0} (world : S → World) (was is : S) (same : is ≡ was) where
@@ -39,15 +40,12 @@ module _ {S : Type 0} (world : S → World) (was is : S) (same : is ≡ was) whe
 
 -- ---- reads
 
-pub get_cause : {S : Type 0} (world : S → World) (was : S) (k : Bytes) (s : ℕ) (reply : Reply) (events : List Event) (c : Core) → TakesGet k s reply events c c → HasCause (ReplyBlames reply) (world was) (world was)
-get_cause world was k s (Value v) events c t = quiet world was was refl (Value v) (λ blamed. blamed)
-get_cause world was k s (Refused x) events c t = quiet world was was refl (Refused x) (read_refusal s c x t.2)
-get_cause world was k s reply events c t = absurd t
+abbrev no_strategies : Strategies
+no_strategies = record { count = 0; may_choose = λ i config hidden version x. ⊥; may_refuse = λ i config hidden version x. ⊥ }
 
-pub pairs_cause : {S : Type 0} (world : S → World) (was : S) (question : Question) (Right : List Pair → Type 0) (s : ℕ) (reply : Reply) (events : List Event) (c : Core) → TakesPairs question Right s reply events c c → HasCause (ReplyBlames reply) (world was) (world was)
-pairs_cause world was question Right s (Pairs pairs) events c t = quiet world was was refl (Pairs pairs) (λ blamed. blamed)
-pairs_cause world was question Right s (Refused x) events c t = quiet world was was refl (Refused x) (read_refusal s c x t.2)
-pairs_cause world was question Right s reply events c t = absurd t
+-- a step of `run` that calls no store
+pub read_cause : {S : Type 0} (world : S → World) (was : S) (x : Step) (told : Outcome) (reply : Reply) (c : Core) → reply ≡ told.reply → TakesInRun no_strategies x told.reply told.entries c c → StepHasCause world x told.reply was was → HasCause (ReplyBlames reply) (world was) (world was)
+read_cause world was x told reply c is takes still = subst (λ r. HasCause (ReplyBlames r) (world was) (world was)) (sym is) (alone_cause world was was no_strategies x told.reply told.entries c c takes still)
 
 -- ---- a batch
 
@@ -89,6 +87,14 @@ refused_rotation_cause world old new x same only = ⊎_elim (λ h. refused_as wo
 pub moment_cause : {S : Type 0} (world : S → World) (n : ℕ) (reply : Reply) (old new : SeenLogged S) → TakesMoment n reply old new → HasCause (ReplyBlames reply) (world old.store) (world new.store)
 moment_cause world n Done old new t = quiet world old.store new.store t.1.store Done (λ blamed. blamed)
 moment_cause world n reply old new t = absurd t
+
+pub table_id_cause : {S : Type 0} (world : S → World) (reply : Reply) (old new : SeenLogged S) → TakesTableId reply old new → HasCause (ReplyBlames reply) (world old.store) (world new.store)
+table_id_cause world (Number n) old new t = quiet world old.store new.store t.1.store (Number n) (λ blamed. blamed)
+table_id_cause world (Refused x) old new t = refused_as world old.store new.store t.1.store OutOfNumbers x refl t.0.1.2
+table_id_cause world reply old new t = absurd t.0.1
+
+pub truth_cause : {S : Type 0} (world : S → World) (was : S) (b : Bool) → HasCause (ReplyBlames (Truth b)) (world was) (world was)
+truth_cause world was b = quiet world was was refl (Truth b) (λ blamed. blamed)
 
 -- ---- calls on jobs
 

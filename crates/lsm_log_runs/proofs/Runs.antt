@@ -1,11 +1,10 @@
 -- From what each step does to what holds of a run.
-use Rattle.std.proofs.Common.{◌≡◌, ℕ, List, [], ◌∷◌, ◌++◌, map, Option, refl, sym, ap, ◌∙◌, subst}
+use Rattle.std.proofs.Common.{◌≡◌, ℕ, List, [], ◌∷◌, ◌++◌, map, Option, Some, None, refl, sym, ap, ◌∙◌, subst}
 use Rattle.std.specs.BTreeMap.{BTreeMap}
 use Rattle.lsm_below.specs.Entries.{Entry}
 use Rattle.lsm_store.specs.World.{World}
 use Rattle.lsm_model.specs.Beginnings.{Saved}
 use Rattle.lsm_model.specs.Sound.{Holds}
-use Rattle.lsm_model.specs.declared.question.Question.TheVariants.{Between, Prefix as AskPrefix}
 use Rattle.lsm_commit.specs.Foreign.{AtRest}
 use Rattle.lsm_journal.specs.NotedReads.{NotedCompactionsKeepReads}
 use Rattle.lsm_log_model.specs.Records.{LogImage, logged, opened_by}
@@ -15,17 +14,19 @@ use Rattle.lsm_runs.specs.declared.slots.Job.{Job}
 use Rattle.lsm_runs.specs.declared.steps.Reply.{Reply}
 use Rattle.lsm_runs.specs.Compacting.{Strategies}
 use Rattle.lsm_runs.specs.Slots.{Stage}
-use Rattle.lsm_runs.proofs.Replays.{free_slots}
-use Rattle.lsm_runs.proofs.ReadReplays.{Sound, get_answers, pairs_answer}
+use Rattle.lsm_runs.specs.declared.steps.Step.{Step}
+use Rattle.lsm_runs.proofs.Replays.{free_slots, alone_answers as run_answers}
+use Rattle.lsm_runs.proofs.ReadReplays.{Sound}
 use Rattle.lsm_state.specs.Core.{state_of}
-use Rattle.lsm_state.specs.Listing.{Lists, ListsPrefix}
+use Rattle.lsm_state.specs.ListSteps.{ListsAreSteps}
 use Rattle.lsm_logged.specs.Keeping.{SeenLogged}
 use Rattle.lsm_log_runs.specs.declared.steps.LogStep.{LogStep}
-use Rattle.lsm_log_runs.specs.declared.steps.LogStep.TheVariants.{Write, Get, Range, Prefix, RotateMemtable, AtSlot, Flush, FlushActiveMemtable, Compact, MajorCompact, DropRange, Clear, SetMoment}
+use Rattle.lsm_log_runs.specs.declared.steps.LogStep.TheVariants.{Write, RotateMemtable, AtSlot, Flush, FlushActiveMemtable, Compact, MajorCompact, DropRange, Clear, GetNextTableId, SetMoment, IsUncertain}
 use Rattle.lsm_log_runs.specs.Adds.{Adds}
 use Rattle.lsm_log_runs.specs.Doing.{ActsAlone, StepDoes, AllDoes, RanTo}
 use Rattle.lsm_log_runs.specs.Moments.{Answers, MayBeTried, StepKeeps}
 use Rattle.lsm_log_runs.specs.Pasts.{LogPast}
+use Rattle.lsm_log_runs.specs.Reads.{read_of, TakesRead, AnswersRead}
 use Rattle.lsm_log_runs.specs.Leading.{SparesAnswers, EachLeads, RunsLogged}
 use Rattle.lsm_log_runs.specs.Runs.{TakesAlone, RanThrough, RanLogged}
 use Rattle.lsm_log_runs.specs.Slots.{LogStage, at_first, beside as stage_beside, EndsLogged}
@@ -85,7 +86,7 @@ module _ {S : Type 0} (strategies : Strategies) (tells : Type 0) (world : S → 
   through (x ∷ steps) [] old stages does = absurd does
   through (x ∷ steps) (r ∷ replies) old [] does = absurd does
 
-  module _ (reading : Reading) (marks : NotedCompactionsKeepReads) (between : Stores world) (told : tells) (image : LogImage) where
+  module _ (reading : Reading) (marks : NotedCompactionsKeepReads) (lists : ListsAreSteps) (between : Stores world) (told : tells) (image : LogImage) where
     abbrev opened : List Entry
     opened = opened_by image
 
@@ -97,11 +98,24 @@ module _ {S : Type 0} (strategies : Strategies) (tells : Type 0) (world : S → 
         let same : without_low_reads opened past.journal ≡ past.journal = subst (λ (p : LogPast). without_low_reads opened p.journal ≡ p.journal) s.came.past_is high in
         subst (λ j. Holds opened (logged image) (state_of j t.core)) (sym same) (subst (λ (tree : Saved). Holds opened (logged image) tree.state) s.is.tree (holds_on reading.theory image past s.log s.came))
 
+    read_answers : (past : LogPast) (x : Option Step) (r : Reply) (old new : SeenLogged S) → StandsLogged world image past old → TakesRead strategies x r old new → AnswersRead opened (logged image) past.journal x r
+    read_answers past (Some x) r old new s takes = run_answers lists reading.theory.sound strategies opened (logged image) x r past.journal takes.1.0 old.core old.core takes.1.1 (sound past old s)
+    read_answers past None r old new s takes = absurd takes
+
     alone_answers : (past : LogPast) (x : LogStep) (r : Reply) (old new : SeenLogged S) → StandsLogged world image past old → TakesAlone strategies x r old new → Answers opened (logged image) past.journal x r
-    alone_answers past (Get k n) r old new s takes = get_answers reading.theory.sound opened (logged image) k n r past.journal takes.1.0 old.core old.core takes.1.1 (sound past old s)
-    alone_answers past (Range low high n) r old new s takes = pairs_answer reading.theory.sound opened (logged image) (Between low high) (Lists old.core low high n) n r past.journal takes.1.0 old.core old.core takes.1.1 (sound past old s)
-    alone_answers past (Prefix p n) r old new s takes = pairs_answer reading.theory.sound opened (logged image) (AskPrefix p) (ListsPrefix old.core p n) n r past.journal takes.1.0 old.core old.core takes.1.1 (sound past old s)
-    alone_answers past x r old new s takes = tt
+    alone_answers past (Write ops) r old new s takes = tt
+    alone_answers past (Flush n) r old new s takes = tt
+    alone_answers past Clear r old new s takes = tt
+    alone_answers past RotateMemtable r old new s takes = tt
+    alone_answers past (FlushActiveMemtable n) r old new s takes = tt
+    alone_answers past (Compact at n) r old new s takes = tt
+    alone_answers past (MajorCompact target n) r old new s takes = tt
+    alone_answers past (DropRange low high) r old new s takes = tt
+    alone_answers past GetNextTableId r old new s takes = tt
+    alone_answers past (SetMoment n) r old new s takes = tt
+    alone_answers past IsUncertain r old new s takes = tt
+    alone_answers past (AtSlot slot step) r old new s takes = tt
+    alone_answers past x r old new s takes = read_answers past (read_of x) r old new s takes
 
     -- what a step is known to add, and what comes of it
     abbrev LeadsTo : LogStep → Reply → LogPast → SeenLogged S → SeenLogged S → Type 0
@@ -111,9 +125,6 @@ module _ {S : Type 0} (strategies : Strategies) (tells : Type 0) (world : S → 
     module _ (past : LogPast) (old new : SeenLogged S) (s : StandsLogged world image past old) (stored : StepFiles world old new) (rest : AtRest (world new.store)) where
       alone_leads : (x : LogStep) (r : Reply) → TakesAlone strategies x r old new → ActsAlone x r (world old.store) (world new.store) old new → MayBeTried opened past.journal x → LeadsTo x r past old new
       alone_leads (Write ops) r takes acts tried = batch_leads world reading between image past old new s stored rest ops tried r takes acts
-      alone_leads (Get k n) r takes acts tried = (past, refl, same_led world reading between image past old new s rest acts)
-      alone_leads (Range low high n) r takes acts tried = (past, refl, same_led world reading between image past old new s rest acts)
-      alone_leads (Prefix p n) r takes acts tried = (past, refl, same_led world reading between image past old new s rest acts)
       alone_leads (Flush n) r takes acts tried = flush_leads world reading between image past old new s stored rest n r acts
       alone_leads Clear r takes acts tried = clear_leads world reading between image past old new s stored rest r takes acts
       alone_leads RotateMemtable r takes acts tried = rotate_leads world reading between image past old new s rest r takes acts
@@ -121,8 +132,10 @@ module _ {S : Type 0} (strategies : Strategies) (tells : Type 0) (world : S → 
       alone_leads (Compact at n) r takes acts tried = compact_leads world reading between image past old new s stored rest n r acts
       alone_leads (MajorCompact target n) r takes acts tried = major_leads world reading between image past old new s stored rest n r acts
       alone_leads (DropRange low high) r takes acts tried = drop_leads world reading between image past old new s stored rest low high r acts
+      alone_leads GetNextTableId r takes acts tried = (past, refl, nothing_led world reading between image past old new s (acts opened past.journal past.notes s.log s.is s.keeps) stored rest)
       alone_leads (SetMoment n) r takes acts tried = (past, refl, nothing_led world reading between image past old new s (acts opened past.journal past.notes s.log s.is s.keeps) stored rest)
       alone_leads (AtSlot slot step) r takes acts tried = absurd takes
+      alone_leads x r takes acts tried = (past, refl, same_led world reading between image past old new s rest acts)
 
     keeps : (past next : LogPast) (x : LogStep) (r : Reply) (old new : SeenLogged S) → StandsLogged world image past old → Advances old.core new.core → Adds x r past next → Answers opened (logged image) past.journal x r → Led world reading between image past next old new
         → StepKeeps (λ t. world t.store) opened (logged image) x r past next old new
@@ -185,11 +198,11 @@ module _ {S : Type 0} (strategies : Strategies) (tells : Type 0) (world : S → 
     ends_at : last_of old (map (λ st. st.tree) ran.stages) ≡ last.tree
     ends_at = last_tree (at_first old) ran.stages ∙ ap (λ (st : LogStage S). st.tree) ran.ends
 
-    pub runs : (reading : Reading) (marks : NotedCompactionsKeepReads) (between : Stores world) (told : tells) → AtRest (world old.store) → RunsLogged world steps replies old new
-    runs reading marks between told rest = record {
+    pub runs : (reading : Reading) (marks : NotedCompactionsKeepReads) (lists : ListsAreSteps) (between : Stores world) (told : tells) → AtRest (world old.store) → RunsLogged world steps replies old new
+    runs reading marks lists between told rest = record {
       trees = map (λ st. st.tree) ran.stages;
       ends = ap (λ (t : SeenLogged S). t.store) ends_at ∙ sym ends.rest.store;
       now = λ image past s. (keeps_now world reading between image past old s rest, opens_now world reading between image past old s rest);
-      leads = λ image past s. each reading marks between told image steps replies past (at_first old) ran.stages ran.does s (first_waiting past);
+      leads = λ image past s. each reading marks lists between told image steps replies past (at_first old) ran.stages ran.does s (first_waiting past);
       goes_on = λ image past s. closed_stands world image past last.tree new (ends_closes last new ends) (subst (StandsLogged world image past) ends_at s);
     }

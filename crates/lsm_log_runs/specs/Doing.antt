@@ -23,7 +23,7 @@ use Rattle.lsm_logged.specs.Acting.{ActsNot, FlushesAct, RotatesAct, ClearsAct, 
 use Rattle.lsm_logged.specs.Keeping.{SeenLogged}
 use Rattle.lsm_logged.specs.Writing.{WritesAct}
 use Rattle.lsm_log_runs.specs.declared.steps.LogStep.{LogStep}
-use Rattle.lsm_log_runs.specs.declared.steps.LogStep.TheVariants.{Write, RotateMemtable, AtSlot, Flush, FlushActiveMemtable, Compact, MajorCompact, DropRange, Clear, SetMoment}
+use Rattle.lsm_log_runs.specs.declared.steps.LogStep.TheVariants.{Write, RotateMemtable, AtSlot, Flush, FlushActiveMemtable, Compact, MajorCompact, DropRange, Clear, GetNextTableId, SetMoment}
 use Rattle.lsm_log_runs.specs.Runs.{TakesRotate, Takes}
 use Rattle.lsm_log_runs.specs.Slots.{LogStage}
 
@@ -106,6 +106,7 @@ ActsAlone (FlushActiveMemtable watermark) reply w w' old new = ActsFlushActive w
 ActsAlone (Compact at watermark) reply w w' old new = ActsCompact watermark reply w w' old new
 ActsAlone (MajorCompact target watermark) reply w w' old new = ActsCompaction (IsMerging watermark) watermark reply w w' old new
 ActsAlone (DropRange low high) reply w w' old new = ActsCompaction (DropsWithin (record { start = low; end = high }) old.core) 0 reply w w' old new
+ActsAlone GetNextTableId reply w w' old new = ActsNot w w' old new
 ActsAlone (SetMoment n) reply w w' old new = ActsNot w w' old new
 ActsAlone (AtSlot slot step) reply w w' old new = ⊥
 ActsAlone step reply w w' old new = new ≡ old

@@ -2,6 +2,7 @@ pub mod Pasts
 pub mod Adds
 pub mod Images
 pub mod Trying
+pub mod Reads
 pub mod Moments
 pub mod CameAbout
 pub mod Standing

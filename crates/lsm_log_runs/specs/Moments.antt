@@ -4,25 +4,20 @@ use Rattle.std.specs.List.{AllByRecursion}
 use Rattle.lsm_below.specs.Entries.{Entry}
 use Rattle.lsm_store.specs.World.{World, LeavesOnly}
 use Rattle.lsm_model.specs.Journal.{Event, Map}
-use Rattle.lsm_model.specs.declared.question.Question.TheVariants.{Between, Prefix as AskPrefix}
 use Rattle.lsm_run_model.specs.Lives.{LeavesReady}
 use Rattle.lsm_run_model.specs.Moments.{LeavesNow}
 use Rattle.lsm_runs.specs.declared.steps.Reply.{Reply}
-use Rattle.lsm_runs.specs.ReadSteps.{GetAnswers, PairsAnswer}
 use Rattle.lsm_log_runs.specs.declared.steps.LogStep.{LogStep}
-use Rattle.lsm_log_runs.specs.declared.steps.LogStep.TheVariants.{Write, Get, Range, Prefix}
+use Rattle.lsm_log_runs.specs.declared.steps.LogStep.TheVariants.{Write}
 use Rattle.lsm_log_runs.specs.Pasts.{LogPast, acknowledged}
 use Rattle.lsm_log_runs.specs.Adds.{Adds}
+use Rattle.lsm_log_runs.specs.Reads.{read_of, AnswersRead}
 use Rattle.lsm_log_runs.specs.Images.{Keeps, KeepsAll, MayBeOpened}
 use Rattle.lsm_log_runs.specs.Trying.{IsOverOne}
 
--- a read answers what the replay of the calls before it does, outside dropped ranges; and where its snapshot is kept only memory may be
--- missing
+-- a step answers right, if it reads
 abbrev pub Answers : List Entry → Map → List Event → LogStep → Reply → Type 0
-Answers opened start journal (Get k s) reply = GetAnswers opened start journal k s reply
-Answers opened start journal (Range low high s) reply = PairsAnswer opened start journal (Between low high) s reply
-Answers opened start journal (Prefix p s) reply = PairsAnswer opened start journal (AskPrefix p) s reply
-Answers opened start journal step reply = Unit {0}
+Answers opened start journal step reply = AnswersRead opened start journal (read_of step) reply
 
 -- a batch may be tried: each key that it removes weakly was set once at most so far. Then the journal stays in order, since no step draws
 -- or sets a counter itself

@@ -8,20 +8,19 @@ use Rattle.lsm_model.specs.Journal.{Event}
 use Rattle.lsm_parts.specs.Held.{first_entries}
 use Rattle.lsm_run_model.specs.Moments.{last_of}
 use Rattle.lsm_runs.specs.declared.steps.Reply.{Reply}
-use Rattle.lsm_runs.specs.declared.steps.Reply.TheVariants.{Number, Sealed, Done, Flushed, FlushedActive, RefusedActive, Cleared, NoStrategy, Refused}
-use Rattle.lsm_runs.specs.Compacting.{Strategies, reply_of}
-use Rattle.lsm_runs.specs.Told.{Told}
-use Rattle.lsm_runs.specs.ReadSteps.{TakesGet, TakesRange, TakesPrefix}
+use Rattle.lsm_runs.specs.declared.steps.Reply.TheVariants.{Number, Sealed, Done, Flushed, FlushedActive, RefusedActive, Cleared, Truth, NoStrategy, Refused}
+use Rattle.lsm_runs.specs.Compacting.{Strategies, reply_of, TakesTableId as DrawsTableId}
 use Rattle.lsm_state.specs.Calls.{Rotates}
 use Rattle.lsm_state.specs.WholeCompactions.{Compacts, DropsRange, options_at, only_memory, major_choice}
 use Rattle.lsm_state.specs.declared.compaction.Begun.{Begun}
 use Rattle.lsm_logged.specs.Asking.{Asks}
 use Rattle.lsm_logged.specs.Flushing.{FlushesLogged, ClearsLogged}
-use Rattle.lsm_logged.specs.Keeping.{SeenLogged}
+use Rattle.lsm_logged.specs.Keeping.{SeenLogged, is_unsure}
 use Rattle.lsm_logged.specs.Writing.{WritesLogged}
 use Rattle.lsm_log_runs.specs.declared.steps.LogStep.{LogStep}
-use Rattle.lsm_log_runs.specs.declared.steps.LogStep.TheVariants.{Write, Get, Range, Prefix, RotateMemtable, AtSlot, Flush, FlushActiveMemtable, Compact, MajorCompact, DropRange, Clear, SetMoment}
+use Rattle.lsm_log_runs.specs.declared.steps.LogStep.TheVariants.{Write, RotateMemtable, AtSlot, Flush, FlushActiveMemtable, Compact, MajorCompact, DropRange, Clear, GetNextTableId, SetMoment, IsUncertain}
 use Rattle.lsm_log_runs.specs.JobSteps.{TakesInSlot}
+use Rattle.lsm_log_runs.specs.Reads.{read_of, TakesRead}
 use Rattle.lsm_log_runs.specs.Slots.{LogStage, at_first, StaysBeside, EndsLogged}
 
 -- ---- what a step of each kind may answer and do
@@ -67,29 +66,30 @@ abbrev pub TakesMoment : {S : Type 0} → ℕ → Reply → SeenLogged S → See
 TakesMoment n Done old new = (new.core ≡ record (old.core) { moment = n }) × StaysBeside old new
 TakesMoment n reply old new = ⊥
 
--- a reply with what it would add to a journal of reads
-abbrev pub told_with : Reply → List Event → Told
-told_with reply events = record { reply = reply; entries = events }
+-- an id for a table is drawn, as in `run`
+abbrev pub TakesTableId : {S : Type 0} → Reply → SeenLogged S → SeenLogged S → Type 0
+TakesTableId reply old new = ((events : List Event) × DrawsTableId reply events old.core new.core) × StaysBeside old new
 
--- a read changes nothing
-abbrev pub Reads : {S : Type 0} → (List Event → Type 0) → SeenLogged S → SeenLogged S → Type 0
-Reads Does old new = (new ≡ old) × ((events : List Event) × Does events)
+-- whether a commit or a record of unknown outcome came before
+abbrev pub TakesUncertain : {S : Type 0} → Reply → SeenLogged S → SeenLogged S → Type 0
+TakesUncertain (Truth b) old new = (new ≡ old) × (b ≡ is_unsure old)
+TakesUncertain reply old new = ⊥
 
--- each is the call that it is named after; one that needs no slot
+-- each is the call that it is named after; one that needs no slot. Each that isn't named here reads the tree
 abbrev pub TakesAlone : {S : Type 0} → Strategies → LogStep → Reply → SeenLogged S → SeenLogged S → Type 0
 TakesAlone strategies (Write ops) reply old new = TakesBatch ops reply old new
-TakesAlone strategies (Get k s) reply old new = Reads (λ events. TakesGet k s reply events old.core old.core) old new
 TakesAlone strategies (Flush w) reply old new = TakesFlush w reply old new
 TakesAlone strategies Clear reply old new = TakesClear reply old new
-TakesAlone strategies (Range low high s) reply old new = Reads (λ events. TakesRange low high s reply events old.core old.core) old new
-TakesAlone strategies (Prefix p s) reply old new = Reads (λ events. TakesPrefix p s reply events old.core old.core) old new
 TakesAlone strategies RotateMemtable reply old new = TakesRotate reply old new
 TakesAlone strategies (FlushActiveMemtable w) reply old new = TakesFlushActive w reply old new
 TakesAlone strategies (Compact at w) reply old new = TakesCompact strategies at w reply old new
 TakesAlone strategies (MajorCompact target w) reply old new = TakesCompaction (λ begun. Compacts (major_choice target) only_memory (options_at w old.core) begun old.core new.core) reply old new
 TakesAlone strategies (DropRange low high) reply old new = TakesCompaction (λ begun. DropsRange (record { start = low; end = high }) begun old.core new.core) reply old new
+TakesAlone strategies GetNextTableId reply old new = TakesTableId reply old new
 TakesAlone strategies (SetMoment n) reply old new = TakesMoment n reply old new
+TakesAlone strategies IsUncertain reply old new = TakesUncertain reply old new
 TakesAlone strategies (AtSlot slot step) reply old new = ⊥
+TakesAlone strategies step reply old new = TakesRead strategies (read_of step) reply old new
 
 -- and that leaves all of them, or a call on the job in a slot
 abbrev pub Takes : {S : Type 0} → Strategies → LogStep → Reply → LogStage S → LogStage S → Type 0

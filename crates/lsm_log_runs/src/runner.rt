@@ -6,9 +6,10 @@ ghost use Rattle.lsm_runs.specs.Causes.{ReplyBlames};
 ghost use Rattle.lsm_runs.specs.Compacting.{strategies_of};
 ghost use Rattle.lsm_runs.specs.Files.{StaysStored};
 ghost use Rattle.lsm_runs.specs.Slots.{SameJobs};
+ghost use Rattle.lsm_logged.specs.Acting.{ActsNot};
 ghost use Rattle.lsm_log_runs.specs.Causes.{EachHasCause};
 ghost use Rattle.lsm_log_runs.specs.Doing.{Acts, ActsBatch, StepDoes, RanTo};
-ghost use Rattle.lsm_log_runs.specs.Runs.{Takes, TakesBatch, RanLogged};
+ghost use Rattle.lsm_log_runs.specs.Runs.{Takes, TakesBatch, TakesTableId, RanLogged};
 ghost use Rattle.lsm_log_runs.specs.Leading.{RunsLogged};
 ghost use Rattle.lsm_log_runs.specs.Slots.{beside};
 
@@ -24,7 +25,8 @@ use lsm_logged::{Logged, logs_can_be_settled, records_are_those_read, versions_a
 use lsm_manifest::{images_stand_once, unread_names_dont_matter};
 use lsm_model::{Op, reads_are_sound};
 use lsm_pick::CompactionStrategy;
-use lsm_runs::{Reply, Slots};
+use lsm_runs::{Reply, Slots, reads};
+use lsm_state::lists_are_steps;
 use lsm_store::Store;
 use std::alloc::{AllocError, Global};
 
@@ -48,6 +50,18 @@ fn write<S: Store>(
     }
 }
 
+// ---- ids of tables
+
+fn get_next_table_id<S: Store>(tree: &mut Logged<S>) -> Reply
+    ensures takes { TakesTableId result tree.old tree.new }
+    ensures acts { S.tells → ActsNot (S.world tree.old.store) (S.world tree.new.store) tree.old tree.new }
+{
+    match tree.get_next_table_id() {
+        Ok(id) => Reply::Number(id),
+        Err(error) => Reply::Refused(error),
+    }
+}
+
 // ---- runs
 
 /// Takes a step. Where there is no room for what it is to write it is an error, and the tree is as it was.
@@ -67,12 +81,34 @@ fn take_step<S: Store>(
 {
     match step {
         LogStep::Write(ops) => write(alloc, tree, ops.as_slice()),
-        LogStep::Get(key, snapshot) => Ok(reads::get(tree.tree(), key, *snapshot)),
-        LogStep::Range(low, high, snapshot) => {
-            reads::range(alloc, tree.tree(), low, high, *snapshot)
+        LogStep::Get(key, snapshot) => {
+            Ok(reads::get(alloc, tree.tree(), key, *snapshot)?.into_reply())
         }
+        LogStep::GetInternalEntry(key, snapshot) => {
+            Ok(reads::get_internal_entry(alloc, tree.tree(), key, *snapshot).into_reply())
+        }
+        LogStep::ContainsKey(key, snapshot) => {
+            Ok(reads::contains_key(alloc, tree.tree(), key, *snapshot).into_reply())
+        }
+        LogStep::SizeOf(key, snapshot) => {
+            Ok(reads::size_of(alloc, tree.tree(), key, *snapshot).into_reply())
+        }
+        LogStep::Range(low, high, snapshot) => {
+            Ok(reads::range(alloc, tree.tree(), low, high, *snapshot)?.into_reply())
+        }
+        LogStep::Iter(snapshot) => Ok(reads::iter(alloc, tree.tree(), *snapshot)?.into_reply()),
         LogStep::Prefix(prefix, snapshot) => {
-            Ok(reads::prefix(alloc, tree.tree(), prefix, *snapshot))
+            Ok(reads::prefix(alloc, tree.tree(), prefix, *snapshot)?.into_reply())
+        }
+        LogStep::Len(snapshot) => Ok(reads::len(alloc, tree.tree(), *snapshot).into_reply()),
+        LogStep::IsEmpty(snapshot) => {
+            Ok(reads::is_empty(alloc, tree.tree(), *snapshot).into_reply())
+        }
+        LogStep::FirstKeyValue(snapshot) => {
+            Ok(reads::first_key_value(alloc, tree.tree(), *snapshot).into_reply())
+        }
+        LogStep::LastKeyValue(snapshot) => {
+            Ok(reads::last_key_value(alloc, tree.tree(), *snapshot).into_reply())
         }
         LogStep::RotateMemtable => Ok(commits::rotate(tree)),
         LogStep::AtSlot(slot, call) => jobs::at_slot(tree, slots, strategies, *slot, *call),
@@ -86,7 +122,12 @@ fn take_step<S: Store>(
         }
         LogStep::DropRange(low, high) => commits::drop_range(tree, low, high),
         LogStep::Clear => Ok(commits::clear(tree)),
+        LogStep::GetNextTableId => Ok(get_next_table_id(tree)),
         LogStep::SetMoment(moment) => Ok(commits::set_moment(tree, *moment)),
+        LogStep::Count(what) => Ok(reads::count(alloc, tree.tree(), *what).into_reply()),
+        LogStep::IsUncertain => Ok(Reply::Truth(tree.is_uncertain())),
+        LogStep::IsCompacting => Ok(reads::is_compacting(alloc, tree.tree()).into_reply()),
+        LogStep::TreeType => Ok(reads::tree_type(alloc, tree.tree()).into_reply()),
     }
 }
 
@@ -180,6 +221,7 @@ pub fn run_logged<S: Store>(
     ensures causes { EachHasCause S.world result.replies.items tree.old.store tree.new.store }
 {
     reads_are_sound();
+    lists_are_steps();
     acts_join();
     counter_stays_above();
     log_stays_sound();
@@ -204,4 +246,3 @@ mod commits;
 mod flush_jobs;
 mod jobs;
 mod merge_jobs;
-mod reads;

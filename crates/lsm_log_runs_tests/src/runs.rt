@@ -2,12 +2,13 @@
 use crate::strategies::{MAJOR, NONE, add_strategies};
 use lsm_log_runs::{LogStep, TakenLogged, live_logged, run_logged};
 use lsm_logged::Logged;
-use lsm_runs::{JobStep, Reply, Slot};
+use lsm_runs::{Count, JobStep, Reply, Slot};
 use lsm_state::{
     CompactionStrategy, Config, Error, Fault, MemStore, Op, Ops, Options, Pick, Store, UserKey,
     UserValue,
 };
 use std::alloc::{AllocError, Global};
+use std::ops::Bound;
 use std::test::Fail;
 
 fn write(alloc: Global, key: &'static str, value: &'static str) -> Result<LogStep, AllocError> {
@@ -16,8 +17,12 @@ fn write(alloc: Global, key: &'static str, value: &'static str) -> Result<LogSte
     Ok(LogStep::Write(Ops::new(ops)))
 }
 
-fn get(key: &'static str) -> LogStep {
-    LogStep::Get(UserKey::from_static(key.as_bytes()), 9)
+fn key(name: &'static str) -> UserKey {
+    UserKey::from_static(name.as_bytes())
+}
+
+fn get(name: &'static str) -> LogStep {
+    LogStep::Get(key(name), 9)
 }
 
 /// Two batches, a flush between them, a read, a clear and a read more.
@@ -93,6 +98,7 @@ fn merge_jobs(alloc: Global) -> Result<Vec<LogStep>, AllocError> {
     steps.push(write(alloc, "a", "x")?)?;
     steps.push(LogStep::FlushActiveMemtable(0))?;
     steps.push(at_slot(3, begin))?;
+    steps.push(LogStep::IsCompacting)?;
     steps.push(at_slot(3, begin))?;
     steps.push(at_slot(3, JobStep::FinishCompaction))?;
     steps.push(at_slot(3, JobStep::RunCompaction))?;
@@ -106,10 +112,11 @@ fn merge_jobs(alloc: Global) -> Result<Vec<LogStep>, AllocError> {
     Ok(steps)
 }
 
-const MERGES: [&str; 13] = [
+const MERGES: [&str; 14] = [
     "Number(0)",
     "FlushedActive(Some(0), Some((50, Registered { installed: true, cleaned: true })))",
     "Compacted(Waits)",
+    "Truth(true)",
     "SlotInUse",
     "NoJob",
     "Done",
@@ -122,26 +129,97 @@ const MERGES: [&str; 13] = [
     "Value(Some(b\"x\"))",
 ];
 
-/// Two batches, and reads of what they set.
+/// Two batches, a flush of the first, and each step that reads or counts, or draws an id for a table.
+fn all_reads(alloc: Global) -> Result<Vec<LogStep>, AllocError> {
+    let mut steps = Vec::new(alloc);
+    steps.push(LogStep::GetNextTableId)?;
+    steps.push(write(alloc, "a", "x")?)?;
+    steps.push(LogStep::FlushActiveMemtable(0))?;
+    steps.push(write(alloc, "b", "yy")?)?;
+    steps.push(get("b"))?;
+    steps.push(LogStep::GetInternalEntry(key("b"), 9))?;
+    steps.push(LogStep::GetInternalEntry(key("b"), 2))?;
+    steps.push(LogStep::ContainsKey(key("a"), 9))?;
+    steps.push(LogStep::ContainsKey(key("a"), 0))?;
+    steps.push(LogStep::SizeOf(key("b"), 9))?;
+    steps.push(LogStep::SizeOf(key("c"), 9))?;
+    steps.push(LogStep::Range(Bound::Excluded(key("a")), Bound::Unbounded, 9))?;
+    steps.push(LogStep::Iter(9))?;
+    steps.push(LogStep::Iter(1))?;
+    steps.push(LogStep::Prefix(key("a"), 9))?;
+    steps.push(LogStep::Len(9))?;
+    steps.push(LogStep::Len(1))?;
+    steps.push(LogStep::IsEmpty(9))?;
+    steps.push(LogStep::IsEmpty(0))?;
+    steps.push(LogStep::FirstKeyValue(9))?;
+    steps.push(LogStep::LastKeyValue(9))?;
+    steps.push(LogStep::LastKeyValue(0))?;
+    steps.push(LogStep::Count(Count::TableCount))?;
+    steps.push(LogStep::Count(Count::LevelTableCount(7)))?;
+    steps.push(LogStep::Count(Count::HighestSeqno))?;
+    steps.push(LogStep::Count(Count::NextTableId))?;
+    steps.push(LogStep::GetNextTableId)?;
+    steps.push(LogStep::IsUncertain)?;
+    steps.push(LogStep::IsCompacting)?;
+    steps.push(LogStep::TreeType)?;
+    Ok(steps)
+}
+
+const READS: [&str; 30] = [
+    "Number(0)",
+    "Number(0)",
+    "FlushedActive(Some(0), Some((50, Registered { installed: true, cleaned: true })))",
+    "Number(2)",
+    "Value(Some(b\"yy\"))",
+    "Entry(Some(InternalValue { key: InternalKey { user_key: b\"b\", seqno: 2, value_type: Value }, value: b\"yy\" }))",
+    "Entry(None)",
+    "Truth(true)",
+    "Truth(false)",
+    "Size(Some(2))",
+    "Size(None)",
+    "Pairs(KvPairs { list: [(b\"b\", b\"yy\")] })",
+    "Pairs(KvPairs { list: [(b\"a\", b\"x\"), (b\"b\", b\"yy\")] })",
+    "Pairs(KvPairs { list: [(b\"a\", b\"x\")] })",
+    "Pairs(KvPairs { list: [(b\"a\", b\"x\")] })",
+    "Count(2)",
+    "Count(1)",
+    "Truth(false)",
+    "Truth(true)",
+    "Pair(Some((b\"a\", b\"x\")))",
+    "Pair(Some((b\"b\", b\"yy\")))",
+    "Pair(None)",
+    "Counted(Some(1))",
+    "Counted(None)",
+    "Counted(Some(2))",
+    "Counted(Some(2))",
+    "Number(2)",
+    "Truth(false)",
+    "Truth(false)",
+    "Kind(Standard)",
+];
+
+/// Two batches, reads of what they set, and whether an outcome is unknown.
 fn two_batches(alloc: Global) -> Result<Vec<LogStep>, AllocError> {
     let first = write(alloc, "a", "x")?;
     let second = write(alloc, "b", "y")?;
-    Ok(vec![in alloc; first, second, get("a"), get("b")]?)
+    Ok(vec![in alloc; first, second, get("a"), get("b"), LogStep::IsUncertain]?)
 }
 
-const BOTH: [&str; 4] = [
+const BOTH: [&str; 5] = [
     "Number(0)",
     "Number(1)",
     "Value(Some(b\"x\"))",
     "Value(Some(b\"y\"))",
+    "Truth(false)",
 ];
 
 /// Where putting the first record has unknown outcome.
-const REFUSED: [&str; 4] = [
+const REFUSED: [&str; 5] = [
     "Refused(CommitUnknown)",
     "Refused(Unrecoverable)",
     "Value(None)",
     "Value(None)",
+    "Truth(true)",
 ];
 
 /// Both are there once the tree is opened again.
@@ -201,6 +279,14 @@ fn runs_take_each_step(rt: HostRuntime) -> Result<(), Fail> {
 }
 
 #[test]
+fn runs_take_each_read(rt: HostRuntime) -> Result<(), Fail> {
+    let steps = all_reads(rt.alloc())?;
+    let right = run(rt.alloc(), MemStore::new(rt.alloc()), &steps, &READS)?;
+    assert_eq!(rt; right, (30, 30));
+    Ok(())
+}
+
+#[test]
 fn runs_take_flushes_as_jobs(rt: HostRuntime) -> Result<(), Fail> {
     let steps = flush_jobs(rt.alloc())?;
     let right = run(rt.alloc(), MemStore::new(rt.alloc()), &steps, &FLUSHES)?;
@@ -212,7 +298,7 @@ fn runs_take_flushes_as_jobs(rt: HostRuntime) -> Result<(), Fail> {
 fn runs_take_merges_as_jobs(rt: HostRuntime) -> Result<(), Fail> {
     let steps = merge_jobs(rt.alloc())?;
     let right = run(rt.alloc(), MemStore::new(rt.alloc()), &steps, &MERGES)?;
-    assert_eq!(rt; right, (13, 13));
+    assert_eq!(rt; right, (14, 14));
     Ok(())
 }
 
@@ -232,7 +318,7 @@ fn failing(alloc: Global) -> Result<MemStore, Error> {
 fn runs_are_refused_behind_an_unknown_outcome(rt: HostRuntime) -> Result<(), Fail> {
     let steps = two_batches(rt.alloc())?;
     let right = run(rt.alloc(), failing(rt.alloc())?, &steps, &REFUSED)?;
-    assert_eq!(rt; right, (4, 4));
+    assert_eq!(rt; right, (5, 5));
     Ok(())
 }
 
@@ -293,7 +379,7 @@ fn lives_are_refused_behind_an_unknown_outcome(rt: HostRuntime) -> Result<(), Fa
     let alloc = rt.alloc();
     let answers = [REFUSED.as_slice(), FOUND.as_slice(), GONE.as_slice()];
     let right = live_twice(alloc, failing(alloc)?, &[("log/0", Pick::Before)], answers)?;
-    assert_eq!(rt; right, [(4, 4), (2, 2), (2, 2)]);
+    assert_eq!(rt; right, [(5, 5), (2, 2), (2, 2)]);
     Ok(())
 }
 
@@ -302,7 +388,7 @@ fn lives_go_on(rt: HostRuntime) -> Result<(), Fail> {
     let alloc = rt.alloc();
     let answers = [BOTH.as_slice(), STAND.as_slice(), STAND.as_slice()];
     let right = live_twice(alloc, MemStore::new(alloc), &[], answers)?;
-    assert_eq!(rt; right, [(4, 4), (2, 2), (2, 2)]);
+    assert_eq!(rt; right, [(5, 5), (2, 2), (2, 2)]);
     Ok(())
 }
 

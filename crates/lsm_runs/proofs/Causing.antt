@@ -84,7 +84,7 @@ batch_reason n ops = go (is_great n) (list_any (λ p. is_long_key p.0) ops) (lis
     go false false false true = refl
     go false false false false = tt
 
-pub read_refusal : (s : ℕ) (c : Core) (x : Error) → IsReadRefusal s c x → Blameless x
+read_refusal : (s : ℕ) (c : Core) (x : Error) → IsReadRefusal s c x → Blameless x
 read_refusal s c x r = ⊎_elim (λ h. named SnapshotTooOld x refl h) (λ h. named OutOfMemory x refl h) r.0
 
 -- ---- calls on jobs
@@ -283,7 +283,7 @@ module _ {F : Type 0} (world : F → World) (was is : F) where
   job_cause strategies FinishCompaction reply events before after old new t c = c
   job_cause strategies step reply events before after old new t c = quiet reply (job_blames_not strategies step reply events before after old new t) c
 
-  alone_cause : (strategies : Strategies) (x : Step) (reply : Reply) (events : List Event) (old new : Core) → TakesAlone strategies x reply events old new → StepHasCause world x reply was is → HasCause (ReplyBlames reply) (world was) (world is)
+  pub alone_cause : (strategies : Strategies) (x : Step) (reply : Reply) (events : List Event) (old new : Core) → TakesAlone strategies x reply events old new → StepHasCause world x reply was is → HasCause (ReplyBlames reply) (world was) (world is)
   alone_cause strategies (Flush n) reply events old new t c = c
   alone_cause strategies (FlushActiveMemtable n) reply events old new t c = c
   alone_cause strategies (Compact at n) reply events old new t c = c

@@ -131,7 +131,7 @@ pub takes_marked : (compactions : NotedCompactionsKeepReads) (strategies : Strat
 takes_marked compactions strategies (AtSlot slot step) reply journal events old new t m = slot_marked compactions strategies slot step reply journal events old new t m
 takes_marked compactions strategies x reply journal events old new t m = still_marked compactions journal events old.jobs new.jobs t.1 m
 
-alone_answers : (lists : ListsAreSteps) (theory : Soundness) (strategies : Strategies) (opened : List Entry) (start : Map) (x : Call) (reply : Reply) (journal events : List Event) (old new : Core) → TakesAlone strategies x reply events old new → Sound opened start journal old → StepAnswers opened start journal x reply
+pub alone_answers : (lists : ListsAreSteps) (theory : Soundness) (strategies : Strategies) (opened : List Entry) (start : Map) (x : Call) (reply : Reply) (journal events : List Event) (old new : Core) → TakesAlone strategies x reply events old new → Sound opened start journal old → StepAnswers opened start journal x reply
 alone_answers lists theory strategies opened start (Get k s) reply journal events old new t h = get_answers theory opened start k s reply journal events old new t h
 alone_answers lists theory strategies opened start (GetInternalEntry k s) reply journal events old new t h = get_entry_answers theory opened start k s reply journal events old new t h
 alone_answers lists theory strategies opened start (ContainsKey k s) reply journal events old new t h = contains_answers theory opened start k s reply journal old t.2 h

@@ -5,6 +5,7 @@
 //! | `steps` | calls as data, and what each replies |
 //! | `slots` | jobs that wait for their next call |
 //! | `replies` | what is replied of a compaction |
+//! | `reads` | steps that only read |
 //! | `writes` | what writes reply, and what they add to the journal |
 //! | `runner` | a list of calls on a tree, with the replay theorem, and what a crash leaves |
 //! | `finding` | how the files of a tree are found, and life after life |
@@ -13,6 +14,7 @@
 
 mod finding;
 mod life;
+pub mod reads;
 mod replies;
 mod runner;
 mod slots;

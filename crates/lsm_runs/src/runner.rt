@@ -6,7 +6,6 @@ ghost use Rattle.lsm_model.specs.Ops.{op_entry};
 ghost use Rattle.lsm_model.specs.declared.op.Op.TheVariants.{Set as SetTo, Del, Weak};
 ghost use Rattle.lsm_runs.specs.Told.{Told};
 ghost use Rattle.lsm_runs.specs.Counting.{RunIsInOrder};
-ghost use Rattle.lsm_runs.specs.ReadSteps.{TakesGet, TakesGetEntry, TakesSilent, IsContainsReply, IsSizeReply};
 ghost use Rattle.lsm_state.specs.Commits.{Upholds};
 ghost use Rattle.lsm_commit.specs.Causes.{HasCause};
 ghost use Rattle.lsm_commit.specs.Foreign.{Passes};
@@ -25,12 +24,12 @@ ghost use Rattle.lsm_runs.specs.After.{RunIsRight};
 use crate::finding::TreeFiles;
 use crate::slots::Slots;
 use crate::writes::{of_batch, of_entry, refused, silent};
-use crate::{Outcome, Reply, Step, Taken};
+use crate::{Outcome, Reply, Step, Taken, reads};
 use lsm_below::{InternalValue, SeqNo, UserKey, UserValue, ValueType, share};
 use lsm_commit::stored_files_are_ready;
 use lsm_journal::{
-    append_noting, batch_entries, noted_compactions_keep_reads, one_entry, read_entry, share_ops,
-    write_entry, write_noting,
+    append_noting, batch_entries, noted_compactions_keep_reads, share_ops, write_entry,
+    write_noting,
 };
 use lsm_manifest::{found_tables_show, images_stand_once};
 use lsm_model::{Op, counted_is_in_order, reads_are_sound};
@@ -136,66 +135,6 @@ fn write<S: Store>(
     Ok(of_batch(entries, written))
 }
 
-// ---- reads
-
-fn get<S: Store>(
-    alloc: Global,
-    state: &TreeState<S>,
-    key: &UserKey,
-    snapshot: SeqNo,
-) -> Result<Outcome, AllocError>
-    ensures { IfOk result (λ told. TakesGet key.now snapshot told.reply told.entries state.now.core state.now.core) }
-{
-    match state.get(key.as_slice(), snapshot) {
-        Ok(value) => {
-            let read = read_entry(snapshot, share(key)?, &value)?;
-            let entries = one_entry(alloc, read)?;
-            Ok(Outcome {
-                reply: Reply::Value(value),
-                entries,
-            })
-        }
-        Err(error) => Ok(refused(alloc, error)),
-    }
-}
-
-fn get_entry<S: Store>(
-    alloc: Global,
-    state: &TreeState<S>,
-    key: &UserKey,
-    snapshot: SeqNo,
-) -> Outcome
-    ensures { TakesGetEntry key.now snapshot result.reply result.entries state.now.core state.now.core }
-{
-    match state.get_internal_entry(key.as_slice(), snapshot) {
-        Ok(entry) => silent(alloc, Reply::Entry(entry)),
-        Err(error) => refused(alloc, error),
-    }
-}
-
-fn contains_key<S: Store>(
-    alloc: Global,
-    state: &TreeState<S>,
-    key: &UserKey,
-    snapshot: SeqNo,
-) -> Outcome
-    ensures { TakesSilent (IsContainsReply key.now snapshot state.now.core) result.reply result.entries state.now.core state.now.core }
-{
-    match state.contains_key(key.as_slice(), snapshot) {
-        Ok(truth) => silent(alloc, Reply::Truth(truth)),
-        Err(error) => refused(alloc, error),
-    }
-}
-
-fn size_of<S: Store>(alloc: Global, state: &TreeState<S>, key: &UserKey, snapshot: SeqNo) -> Outcome
-    ensures { TakesSilent (IsSizeReply key.now snapshot state.now.core) result.reply result.entries state.now.core state.now.core }
-{
-    match state.size_of(key.as_slice(), snapshot) {
-        Ok(size) => silent(alloc, Reply::Size(size)),
-        Err(error) => refused(alloc, error),
-    }
-}
-
 // ---- rotation
 
 fn rotate_memtable<S: Store>(alloc: Global, state: &mut TreeState<S>) -> Outcome
@@ -231,17 +170,19 @@ fn take_step<S: Store>(
         Step::RemoveWeak(key, seqno) => remove_weak(alloc, state, key, *seqno),
         Step::AppendEntry(entry) => append_entry(alloc, state, entry),
         Step::Write(ops) => write(alloc, state, ops.as_slice()),
-        Step::Get(key, snapshot) => get(alloc, state, key, *snapshot),
-        Step::GetInternalEntry(key, snapshot) => Ok(get_entry(alloc, state, key, *snapshot)),
-        Step::ContainsKey(key, snapshot) => Ok(contains_key(alloc, state, key, *snapshot)),
-        Step::SizeOf(key, snapshot) => Ok(size_of(alloc, state, key, *snapshot)),
-        Step::Range(low, high, snapshot) => ranges::range(alloc, state, low, high, *snapshot),
-        Step::Iter(snapshot) => ranges::iter(alloc, state, *snapshot),
-        Step::Prefix(prefix, snapshot) => ranges::prefix(alloc, state, prefix, *snapshot),
-        Step::Len(snapshot) => Ok(ranges::len(alloc, state, *snapshot)),
-        Step::IsEmpty(snapshot) => Ok(ranges::is_empty(alloc, state, *snapshot)),
-        Step::FirstKeyValue(snapshot) => Ok(ranges::first_key_value(alloc, state, *snapshot)),
-        Step::LastKeyValue(snapshot) => Ok(ranges::last_key_value(alloc, state, *snapshot)),
+        Step::Get(key, snapshot) => reads::get(alloc, state, key, *snapshot),
+        Step::GetInternalEntry(key, snapshot) => {
+            Ok(reads::get_internal_entry(alloc, state, key, *snapshot))
+        }
+        Step::ContainsKey(key, snapshot) => Ok(reads::contains_key(alloc, state, key, *snapshot)),
+        Step::SizeOf(key, snapshot) => Ok(reads::size_of(alloc, state, key, *snapshot)),
+        Step::Range(low, high, snapshot) => reads::range(alloc, state, low, high, *snapshot),
+        Step::Iter(snapshot) => reads::iter(alloc, state, *snapshot),
+        Step::Prefix(prefix, snapshot) => reads::prefix(alloc, state, prefix, *snapshot),
+        Step::Len(snapshot) => Ok(reads::len(alloc, state, *snapshot)),
+        Step::IsEmpty(snapshot) => Ok(reads::is_empty(alloc, state, *snapshot)),
+        Step::FirstKeyValue(snapshot) => Ok(reads::first_key_value(alloc, state, *snapshot)),
+        Step::LastKeyValue(snapshot) => Ok(reads::last_key_value(alloc, state, *snapshot)),
         Step::RotateMemtable => Ok(rotate_memtable(alloc, state)),
         Step::Next(counter) => Ok(counters::next(alloc, state, *counter)),
         Step::Set(counter, seqno) => Ok(counters::set(alloc, state, *counter, *seqno)),
@@ -263,10 +204,10 @@ fn take_step<S: Store>(
         Step::ClearActiveMemtable => Ok(clear::clear_active_memtable(alloc, state)),
         Step::GetNextTableId => Ok(compaction::get_next_table_id(alloc, state)),
         Step::SetMoment(moment) => Ok(flush::set_moment(alloc, state, *moment)),
-        Step::Count(what) => Ok(counts::count(alloc, state, *what)),
-        Step::IsUncertain => Ok(counts::is_uncertain(alloc, state)),
-        Step::IsCompacting => Ok(compaction::is_compacting(alloc, state)),
-        Step::TreeType => Ok(counts::tree_type(alloc, state)),
+        Step::Count(what) => Ok(reads::count(alloc, state, *what)),
+        Step::IsUncertain => Ok(reads::is_uncertain(alloc, state)),
+        Step::IsCompacting => Ok(reads::is_compacting(alloc, state)),
+        Step::TreeType => Ok(reads::tree_type(alloc, state)),
     }
 }
 
@@ -412,7 +353,5 @@ pub fn run<S: Store>(
 mod clear;
 mod compaction;
 mod counters;
-mod counts;
 mod flush;
 mod jobs;
-mod ranges;

@@ -267,6 +267,13 @@ impl Outcome {
     {
         &self.entries
     }
+
+    /// What the step answered, alone.
+    pub fn into_reply(self) -> Reply
+        ensures { result ≡ self.reply }
+    {
+        self.reply
+    }
 }
 
 /// The steps that were taken.

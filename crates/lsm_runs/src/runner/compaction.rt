@@ -4,8 +4,7 @@ ghost use Rattle.lsm_versions.specs.Levels.{all_of, HasOwnIds};
 ghost use Rattle.lsm_state.specs.Compactions.{levels_of};
 ghost use Rattle.lsm_state.specs.WholeCompactions.{options_at};
 ghost use Rattle.lsm_journal.specs.Noted.{IsAnswerOf, noted_of};
-ghost use Rattle.lsm_runs.specs.Compacting.{strategies_of, TakesBeginCompaction, TakesRunCompaction, TakesFinish, TakesAbandonCompaction, DoesAnswer, CompactsFrom, TakesCompact, TakesMajor, TakesDropRange, TakesTableId, IsCompactingReply};
-ghost use Rattle.lsm_runs.specs.ReadSteps.{TakesSilent};
+ghost use Rattle.lsm_runs.specs.Compacting.{strategies_of, TakesBeginCompaction, TakesRunCompaction, TakesFinish, TakesAbandonCompaction, DoesAnswer, CompactsFrom, TakesCompact, TakesMajor, TakesDropRange, TakesTableId};
 ghost use Rattle.lsm_commit.specs.Causes.{HasCause, Blames};
 ghost use Rattle.lsm_state.specs.Commits.{Upholds};
 ghost use Rattle.lsm_runs.specs.Causes.{ReplyBlames};
@@ -257,10 +256,4 @@ pub(super) fn get_next_table_id<S: Store>(alloc: Global, state: &mut TreeState<S
         Ok(id) => silent(alloc, Reply::Number(id)),
         Err(error) => refused(alloc, error),
     }
-}
-
-pub(super) fn is_compacting<S: Store>(alloc: Global, state: &TreeState<S>) -> Outcome
-    ensures { TakesSilent (IsCompactingReply state.now.core) result.reply result.entries state.now.core state.now.core }
-{
-    silent(alloc, Reply::Truth(state.is_compacting()))
 }

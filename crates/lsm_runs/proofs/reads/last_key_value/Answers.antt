@@ -1,6 +1,6 @@
 use Rattle.lsm_iter.specs.declared.tree_iter.End.TheVariants.{Back}
 use Rattle.lsm_runs.proofs.ReadOutcomes.{end_taken}
-use Rattle.lsm_runs.proofs.runner.ranges.last_key_value.Goals as goal
+use Rattle.lsm_runs.proofs.reads.last_key_value.Goals as goal
 
 pub returns : goal.returns
 returns g c =

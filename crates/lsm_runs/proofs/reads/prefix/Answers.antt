@@ -3,7 +3,7 @@ use Rattle.lsm_model.specs.declared.question.Question.TheVariants.{Prefix}
 use Rattle.lsm_state.specs.Ranges.{Prefixes}
 use Rattle.lsm_runs.specs.ReadSteps.{ToldFound}
 use Rattle.lsm_runs.proofs.ReadOutcomes.{prefix_taken}
-use Rattle.lsm_runs.proofs.runner.ranges.prefix.Goals as goal
+use Rattle.lsm_runs.proofs.reads.prefix.Goals as goal
 
 pub returns : goal.returns
 returns g c =

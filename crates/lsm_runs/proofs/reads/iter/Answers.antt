@@ -2,7 +2,7 @@ use Rattle.std.proofs.Common.{IfOk, subst}
 use Rattle.std.specs.declared.ops.Bound.TheVariants.{Unbounded}
 use Rattle.lsm_runs.specs.ReadSteps.{ToldFound}
 use Rattle.lsm_runs.proofs.ReadOutcomes.{range_taken}
-use Rattle.lsm_runs.proofs.runner.ranges.iter.Goals as goal
+use Rattle.lsm_runs.proofs.reads.iter.Goals as goal
 
 pub returns : goal.returns
 returns g c =

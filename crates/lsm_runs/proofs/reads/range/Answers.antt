@@ -2,7 +2,7 @@ use Rattle.std.proofs.Common.{None, IfOk, subst}
 use Rattle.lsm_state.specs.Ranges.{Ranges}
 use Rattle.lsm_runs.specs.ReadSteps.{ToldFound}
 use Rattle.lsm_runs.proofs.ReadOutcomes.{range_taken}
-use Rattle.lsm_runs.proofs.runner.ranges.range.Goals as goal
+use Rattle.lsm_runs.proofs.reads.range.Goals as goal
 
 pub returns : goal.returns
 returns g c =
