@@ -43,9 +43,9 @@ fn flush_in_parts(rt: &impl Wait, alloc: Global, tree: &Tree) -> Result<Register
     set(rt, alloc, tree, "a", "x")?;
     let job = begin(rt, tree)?;
     let written = write_tables(rt, tree, job)?;
-    let set = set(rt, alloc, tree, "a", "y");
+    let second = set(rt, alloc, tree, "a", "y");
     let registered = tree.register_tables(rt, written)?;
-    set?;
+    second?;
     Ok(registered)
 }
 
