@@ -139,7 +139,7 @@ impl<S: Store> Handle<TreeState<S>> {
     /// # Examples
     ///
     /// ```text
-    /// let begun = tree.compact_gated(rt, &Leveled::new(alloc)?, watermark, &RunJob)?;
+    /// let done = tree.compact_gated(rt, &Leveled::new(alloc)?, watermark, &RunJob)?;
     /// ```
     ///
     /// # Errors
