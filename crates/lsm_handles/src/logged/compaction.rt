@@ -161,7 +161,7 @@ impl<S: Store> Handle<Logged<S>> {
         watermark: SeqNo,
         gate: &impl Gate,
     ) -> Result<Option<Finished>, Error>
-        ensures gated { CompactsGatedLogged S.tells S.world (may_choose strategy.now) (may_refuse strategy.now) watermark (as_begun result) }
+        ensures { CompactsGatedLogged S.tells S.world (may_choose strategy.now) (may_refuse strategy.now) watermark (as_begun result) }
     {
         let begun = self.begin_at(rt, strategy, watermark);
         follow!(begun, |job| self.end_gated(rt, gate.pass(job)))

@@ -138,7 +138,7 @@ impl<S: Store> Handle<Recorded<S>> {
         watermark: SeqNo,
         gate: &impl Gate,
     ) -> Result<Option<Finished>, Error>
-        ensures gated { CompactsGatedRecorded S.tells S.world (may_choose strategy.now) (may_refuse strategy.now) watermark (as_begun result) pass.old pass.new }
+        ensures { CompactsGatedRecorded S.tells S.world (may_choose strategy.now) (may_refuse strategy.now) watermark (as_begun result) pass.old pass.new }
     {
         let begun = self.begin_at(rt, pass, strategy, watermark);
         follow!(begun, |job| self.end_gated(rt, pass, gate.pass(job)))

@@ -153,7 +153,7 @@ impl<S: Store> Handle<TreeState<S>> {
         watermark: SeqNo,
         gate: &impl Gate,
     ) -> Result<Option<Finished>, Error>
-        ensures gated { CompactsGated S.tells S.world (may_choose strategy.now) (may_refuse strategy.now) watermark (as_begun result) }
+        ensures { CompactsGated S.tells S.world (may_choose strategy.now) (may_refuse strategy.now) watermark (as_begun result) }
     {
         let begun = self.begin_at(rt, strategy, watermark);
         follow!(begun, |job| self.end_gated(rt, gate.pass(job)))

@@ -5,8 +5,8 @@ use Rattle.lsm_handles.specs.Gates.{EndsGatedLogged, FollowsGatedLogged}
 use Rattle.lsm_handles.proofs.Gates.{of_the_job}
 use Rattle.lsm_handles.proofs.logged.compaction.Handle+Logged+S.compact_gated.Goals as goal
 
-pub returns-in-Ok-Job-clause-gated : goal.returns-in-Ok-Job-clause-gated
-returns-in-Ok-Job-clause-gated g c =
+pub returns-in-Ok-Job : goal.returns-in-Ok-Job
+returns-in-Ok-Job g c =
     let told = as_begun c.end_gated.result in
     let ends = of_the_job c.in-Ok-Job.job (λ j. EndsGatedLogged g.S.Store.tells g.S.Store.world j told) c.pass.result c.pass.ensures.job c.pass.ensures.back c.end_gated.ensures.done c.end_gated.ensures.back in
     record {

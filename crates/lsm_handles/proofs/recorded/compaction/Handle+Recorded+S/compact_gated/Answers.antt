@@ -5,8 +5,8 @@ use Rattle.lsm_handles.specs.Gates.{EndsGatedRecorded, FollowsGatedRecorded}
 use Rattle.lsm_handles.proofs.Gates.{of_the_job}
 use Rattle.lsm_handles.proofs.recorded.compaction.Handle+Recorded+S.compact_gated.Goals as goal
 
-pub returns-in-Ok-Job-clause-gated : goal.returns-in-Ok-Job-clause-gated
-returns-in-Ok-Job-clause-gated g c =
+pub returns-in-Ok-Job : goal.returns-in-Ok-Job
+returns-in-Ok-Job g c =
     let told = as_begun c.end_gated.result in
     let mid = c.begin_at-begun.new.pass in
     let last = c.end_gated.new.pass in
