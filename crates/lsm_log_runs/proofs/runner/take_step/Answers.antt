@@ -59,13 +59,13 @@ pub returns-in-SizeOf-clause-causes : goal.returns-in-SizeOf-clause-causes
 returns-in-SizeOf-clause-causes g c = read_cause g.S.Store.world c.args.tree.now.store (run.SizeOf c.in-SizeOf.key c.in-SizeOf.snapshot) c.size_of.result c.into_reply-in-SizeOf.result _ c.into_reply-in-SizeOf.ensures c.size_of.ensures refl
 
 pub returns-in_ok-range-in-Range-clause-causes : goal.returns-in_ok-range-in-Range-clause-causes
-returns-in_ok-range-in-Range-clause-causes g c = read_cause g.S.Store.world c.args.tree.now.store (run.Range c.in-Range.low c.in-Range.high c.in-Range.snapshot) c.in_ok-range-in-Range.field-0 c.into_reply-in-Range.result _ c.into_reply-in-Range.ensures c.in_ok-range-in-Range.ensures refl
+returns-in_ok-range-in-Range-clause-causes g c = read_cause g.S.Store.world c.args.tree.now.store (run.Range c.in-Range.low c.in-Range.high c.in-Range.snapshot) c.in_ok-range-in-Range.field-0 c.into_reply-in-Range.result c.tree-in-Range.result.now.core c.into_reply-in-Range.ensures c.in_ok-range-in-Range.ensures refl
 
 pub returns-in_ok-iter-in-Iter-clause-causes : goal.returns-in_ok-iter-in-Iter-clause-causes
-returns-in_ok-iter-in-Iter-clause-causes g c = read_cause g.S.Store.world c.args.tree.now.store (run.Iter c.in-Iter.snapshot) c.in_ok-iter-in-Iter.field-0 c.into_reply-in-Iter.result _ c.into_reply-in-Iter.ensures c.in_ok-iter-in-Iter.ensures refl
+returns-in_ok-iter-in-Iter-clause-causes g c = read_cause g.S.Store.world c.args.tree.now.store (run.Iter c.in-Iter.snapshot) c.in_ok-iter-in-Iter.field-0 c.into_reply-in-Iter.result c.tree-in-Iter.result.now.core c.into_reply-in-Iter.ensures c.in_ok-iter-in-Iter.ensures refl
 
 pub returns-in_ok-prefix-in-Prefix-clause-causes : goal.returns-in_ok-prefix-in-Prefix-clause-causes
-returns-in_ok-prefix-in-Prefix-clause-causes g c = read_cause g.S.Store.world c.args.tree.now.store (run.Prefix c.in-Prefix.prefix c.in-Prefix.snapshot) c.in_ok-prefix-in-Prefix.field-0 c.into_reply-in-Prefix.result _ c.into_reply-in-Prefix.ensures c.in_ok-prefix-in-Prefix.ensures refl
+returns-in_ok-prefix-in-Prefix-clause-causes g c = read_cause g.S.Store.world c.args.tree.now.store (run.Prefix c.in-Prefix.prefix c.in-Prefix.snapshot) c.in_ok-prefix-in-Prefix.field-0 c.into_reply-in-Prefix.result c.tree-in-Prefix.result.now.core c.into_reply-in-Prefix.ensures c.in_ok-prefix-in-Prefix.ensures refl
 
 pub returns-in-Len-clause-causes : goal.returns-in-Len-clause-causes
 returns-in-Len-clause-causes g c = read_cause g.S.Store.world c.args.tree.now.store (run.Len c.in-Len.snapshot) c.len.result c.into_reply-in-Len.result _ c.into_reply-in-Len.ensures c.len.ensures refl

@@ -8,7 +8,7 @@ returns-clause-acts g c tells =
     let world = g.S.Store.world in
     let old = c.args.tree.now in
     let new = c.finish_compaction.new.self in
-    merge_acts old new c.of_finished.result c.finish_compaction.result c.of_finished.ensures c.args.place.now (world old.store) (world new.store) c.in-Some-Compacted.merged (search rules) (c.finish_compaction.ensures.acts tells)
+    merge_acts old new c.of_finished.result c.finish_compaction.result c.of_finished.ensures c.args.place.now (world old.store) (world new.store) c.in-Some-Compacted.merged (search rules) (rw c.into_job-merged.ensures at (c.finish_compaction.ensures.acts tells))
 
 pub returns-clause-causes : goal.returns-clause-causes
 returns-clause-causes g c = finished_cause c.finish_compaction.result c.of_finished.result _ _ c.of_finished.ensures c.finish_compaction.ensures.files.causes
