@@ -1,5 +1,4 @@
 use Rattle.std.proofs.Common.{IfOk, refl, subst, sym}
-use Rattle.std.proofs.lemmas.Result.{IfOk-weaker}
 use Rattle.lsm_log_runs.specs.Doing.{Acts}
 use Rattle.lsm_log_runs.specs.Slots.{beside}
 use Rattle.lsm_runs.specs.declared.steps.Step.TheVariants as run
