@@ -52,30 +52,49 @@ fn gives_last(iter: Result<TreeIter, Error>) -> bool {
     }
 }
 
-/// Whether this is the pair b = y, lent.
-fn is_last_lent(pair: Option<(&UserKey, &UserValue)>) -> bool {
+/// Whether this is the pair of these, lent.
+fn is_lent(pair: Option<(&UserKey, &UserValue)>, name: &str, text: &str) -> bool {
     match pair {
         Some((key, value)) => {
-            key.as_slice() == "b".as_bytes() && value.as_slice() == "y".as_bytes()
+            key.as_slice() == name.as_bytes() && value.as_slice() == text.as_bytes()
         }
         None => false,
     }
 }
 
-/// Whether b = y is lent, behind so many others.
-fn lends_last(pairs: Result<Pairs<'_>, Error>, others: usize) -> bool {
+/// Whether both pairs are lent, and no other.
+fn lends_both(pairs: Result<Pairs<'_>, Error>) -> bool {
     match pairs {
-        Ok(mut pairs) => is_last_lent(pairs.next_back()) && pairs.count() == others,
+        Ok(mut pairs) => {
+            is_lent(pairs.next(), "a", "x")
+                && is_lent(pairs.next(), "b", "y")
+                && pairs.next().is_none()
+        }
+        Err(_) => false,
+    }
+}
+
+/// Whether b = y alone is lent.
+fn lends_last(pairs: Result<Pairs<'_>, Error>) -> bool {
+    match pairs {
+        Ok(mut pairs) => is_lent(pairs.next_back(), "b", "y") && pairs.next_back().is_none(),
+        Err(_) => false,
+    }
+}
+
+/// Whether the entry of b is that of its write.
+fn decides(tree: &Logged) -> bool {
+    match tree.get_internal_entry(b"b", 3) {
+        Ok(Some(entry)) => entry.key.seqno == 2,
+        Ok(None) => false,
         Err(_) => false,
     }
 }
 
 fn reads_keys(tree: &Logged) -> Result<bool, Error> {
-    let entry = tree.get_internal_entry(b"b", 3)?;
-    let is_entry = matches!(entry, Some(entry) if entry.key.seqno == 2);
     Ok(
         shows(tree, 3, "a", Some("x"))?
-            && is_entry
+            && decides(tree)
             && tree.contains_key(b"a", 1)?
             && !tree.contains_key(b"b", 2)?
             && tree.size_of(b"b", 3)? == Some(1),
@@ -91,8 +110,8 @@ fn reads_ranges(tree: &Logged) -> bool {
         && gives_both(tree.create_iter(3, None))
         && gives_last(tree.prefix(b"b", 3, None))
         && gives_last(tree.create_prefix(b"b", 3, None))
-        && lends_last(tree.pairs(&all, 3, None), 1)
-        && lends_last(tree.pairs_with_prefix(b"b", 3, None), 0)
+        && lends_both(tree.pairs(&all, 3, None))
+        && lends_last(tree.pairs_with_prefix(b"b", 3, None))
 }
 
 fn counts_both(tree: &Logged) -> Result<bool, Error> {
