@@ -18,3 +18,4 @@ pub mod TargetSteps
 pub mod BestSteps
 pub mod ShownSteps
 pub mod FreshSteps
+pub mod Never

@@ -7,3 +7,4 @@ pub mod LeveledRule
 pub mod Leveled
 pub mod Config
 pub mod Law
+pub mod Never

@@ -30,7 +30,7 @@ pub use bounds::OwnedBounds;
 pub use choice::{Choice, ChooseError};
 pub use drop_range::DropRange;
 pub use fifo::{Fifo, NAME as FIFO_COMPACTION_NAME};
-pub use laws::leveled_is_lawful;
+pub use laws::{leveled_is_lawful, leveled_never_drops, major_never_drops};
 pub use leveled::{Leveled, Leveled as Levelled, NAME as LEVELED_COMPACTION_NAME};
 pub use lsm_checks::{Input, pick_run_indexes};
 pub use major::Major;

@@ -28,3 +28,4 @@ pub mod Files
 pub mod CompactionReads
 pub mod Clearing
 pub mod Recording
+pub mod Dropping
