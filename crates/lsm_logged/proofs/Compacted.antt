@@ -30,10 +30,11 @@ use Rattle.lsm_state.specs.Commits.{Upholds, counted}
 use Rattle.lsm_state.specs.Deeds.{saved_of, IsMarkDeed, AreDone}
 use Rattle.lsm_state.specs.Settling.{SettlesSome, IsInstalled, IsDoubted}
 use Rattle.lsm_state.specs.Compactions.{Relation, MayAnswer, Does, BeginsChoice, BeginsCompaction, InstallsChoice, reason_of, error_of}
+use Rattle.lsm_state.specs.Dropping.{IsDropOf, MayDropIds}
 use Rattle.lsm_state.specs.CompactionDeeds.{AreLostTelling, merge_of, IsChoiceDeed, IsLostChoice, ChoiceDeeds, CompactionsAreDeeds}
 use Rattle.lsm_logged.specs.Keeping.{SeenLogged, IsLogOf, KeepsLog}
 use Rattle.lsm_logged.specs.Removing.{log_from_of}
-use Rattle.lsm_logged.specs.Acting.{IsCompaction, told_by, told_installed, LeadsByCommit, LeadsByLost, LeadsByMark, ActsByCompaction, CompactsBy, CompactsAct}
+use Rattle.lsm_logged.specs.Acting.{IsCompaction, IsAnyCompaction, told_by, told_installed, LeadsByCommit, LeadsByLost, LeadsByMark, ActsByCompaction, CompactsBy, CompactsAct}
 use Rattle.lsm_logged.proofs.Led.{is_install, first, stop, leads_passing}
 use Rattle.lsm_logged.proofs.CommitActs.{commit_leads, lost_leads}
 use Rattle.lsm_logged.proofs.Removals.{passes_on, none_behind}
@@ -81,16 +82,29 @@ Allows May w (Move input) = (run : List SeenTable) → May (Moved input.dest_lev
 Allows May w (Merge input) = (job : SeenCompaction) (run : List SeenTable) → job.settings.watermark ≡ w → May (merge_of job run)
 Allows May w (Drop ids) = May (DroppedTables ids.keys)
 
-pub any_allowed : (w : ℕ) (choice : Choice) → Allows (IsCompaction w) w choice
-any_allowed w DoNothing = tt
-any_allowed w (Move input) = λ run. tt
-any_allowed w (Merge input) = λ job run at. at
-any_allowed w (Drop ids) = tt
+-- a choice drops just its own tables, and so those that the strategy that made it may drop
+pub choice_allowed : (w : ℕ) (choice : Choice) → Allows (IsCompaction (IsDropOf choice) w) w choice
+choice_allowed w DoNothing = tt
+choice_allowed w (Move input) = λ run. tt
+choice_allowed w (Merge input) = λ job run at. at
+choice_allowed w (Drop ids) = refl
+
+pub chosen_allowed : (may : Relation Choice) (w : ℕ) (c : Core) (choice : Choice) → MayAnswer may c choice → Allows (IsCompaction (MayDropIds may c) w) w choice
+chosen_allowed may w c DoNothing is = tt
+chosen_allowed may w c (Move input) is = λ run. tt
+chosen_allowed may w c (Merge input) is = λ job run at. at
+chosen_allowed may w c (Drop ids) is = (Drop ids, is, refl)
+
+any_of : (May : List ℕ → Type 0) (w : ℕ) (action : Action) → IsCompaction May w action → IsAnyCompaction w action
+any_of May w (Merged k d ids evict made) is = is
+any_of May w (Moved d ids moved) is = tt
+any_of May w (DroppedTables ids) is = tt
+any_of May w action is = absurd is
 
 -- ---- as acts
 
 -- a compaction leaves from where a log is read
-compaction_facts : (w : ℕ) (action : Action) → IsCompaction w action → (is_write action ≡ false) × (is_install action ≡ true) × ((x : State) (from : ℕ) → next_from x from action ≡ from)
+compaction_facts : (w : ℕ) (action : Action) → IsAnyCompaction w action → (is_write action ≡ false) × (is_install action ≡ true) × ((x : State) (from : ℕ) → next_from x from action ≡ from)
 compaction_facts w (Wrote e) is = absurd is
 compaction_facts w (Rotated a) is = absurd is
 compaction_facts w (Flushed k job made) is = absurd is
@@ -113,7 +127,7 @@ module _ {S : Type 0} (watermark : ℕ) (w w' : World) (old new : SeenLogged S) 
       let l = first opened t (Marked watermark) d.0 [] tree t.log_from t.other_from new.core.seqno ⊥ refl (λ q. absurd (cc q)) d.1 (omega arith) (stop opened (did t (Marked watermark) d.0) tree new.core.seqno ⊥ (sym d.2) (λ no. absurd no)) in
       leads_passing opened journal notes t w w' old new is keeps commits.files doubt commits.passes journal' notes (Did (Marked watermark) ∷ []) t.log_from t.other_from ⊥ l (omega arith) (is.from ∙ sym m.2) (λ v h. is.other v (sym m.3 ∙ h)) m.1
 
-  module _ (May : Action → Type 0) (only : (action : Action) → May action → IsCompaction watermark action) (sure : old.doubted ≡ false) (small : old.core.seqno < 2 ^ 64) (read : PlainNumbersAreRead) where
+  module _ (May : Action → Type 0) (only : (action : Action) → May action → IsAnyCompaction watermark action) (sure : old.doubted ≡ false) (small : old.core.seqno < 2 ^ 64) (read : PlainNumbersAreRead) where
     install_leads : (i : Installs May watermark old.core new.core) → LeadsByCommit watermark i.action (told_installed i.action old.core) [] opened journal notes t w w' old new
     install_leads i =
         let facts = compaction_facts watermark i.action (only i.action i.may) in
@@ -342,7 +356,7 @@ unsure_acts {S} {May} watermark world tree numbers doubted now same kept law sti
     λ opened start journal notes t is keeps next holds. unsure_compaction watermark (world now.store) (world now.store) now now refl there opened start journal notes t is keeps next holds May (same_marked watermark now.core now.core deed refl)
 
 -- no record has: what the tree's call did, of the actions that may be of a tree as it was
-pub answers_act : {S : Type 0} (May : Core → Action → Type 0) (watermark : ℕ) → ((c : Core) (action : Action) → May c action → IsCompaction watermark action)
+pub answers_act : {S : Type 0} (May : Core → Action → Type 0) (watermark : ℕ) → ((c : Core) (action : Action) → May c action → IsAnyCompaction watermark action)
     → (world : S → World) (tree mid : Seen S) (numbers : List ℕ) (doubted : Bool) (now : SeenLogged S) → logged_with tree numbers doubted ≡ now → IsKeptTree now.core → now.core.seqno < 2 ^ 64 → PlainNumbersAreRead → doubted ≡ false → Upholds (world tree.store) (world mid.store) tree.core mid.core
     → (r : Result Begun Error) → (IsKeptTree tree.core → Outcome (May tree.core) watermark r tree.core mid.core) → CompactsBy (May now.core) watermark r (world now.store) (world mid.store) now (logged_with mid numbers doubted)
 answers_act {S} May watermark only world tree mid numbers doubted now same kept small read sure commits r outcome =
@@ -353,7 +367,14 @@ answers_act {S} May watermark only world tree mid numbers doubted now same kept 
     subst (λ (t : SeenLogged S). CompactsBy (May t.core) watermark r (world t.store) (world new.store) t new) same
     (λ opened start journal notes t is keeps next holds. outcome_acts watermark (world old.store) (world new.store) old new refl commits opened start journal notes t is keeps next holds (May old.core) (only old.core) sure fits read r (outcome there))
 
--- the same of any compaction
-pub answered_acts : {S : Type 0} (watermark : ℕ) (world : S → World) (tree mid : Seen S) (numbers : List ℕ) (doubted : Bool) (now : SeenLogged S) → logged_with tree numbers doubted ≡ now → IsKeptTree now.core → now.core.seqno < 2 ^ 64 → PlainNumbersAreRead → doubted ≡ false → Upholds (world tree.store) (world mid.store) tree.core mid.core
-    → (r : Result Begun Error) → (IsKeptTree tree.core → Outcome (IsCompaction watermark) watermark r tree.core mid.core) → CompactsAct watermark r (world now.store) (world mid.store) now (logged_with mid numbers doubted)
-answered_acts watermark world tree mid numbers doubted now = answers_act (λ c. IsCompaction watermark) watermark (λ c action is. is) world tree mid numbers doubted now
+-- the same of a compaction that drops none but tables that may be dropped
+pub answered_acts : {S : Type 0} (May : Core → List ℕ → Type 0) (watermark : ℕ) (world : S → World) (tree mid : Seen S) (numbers : List ℕ) (doubted : Bool) (now : SeenLogged S) → logged_with tree numbers doubted ≡ now → IsKeptTree now.core → now.core.seqno < 2 ^ 64 → PlainNumbersAreRead → doubted ≡ false → Upholds (world tree.store) (world mid.store) tree.core mid.core
+    → (r : Result Begun Error) → (IsKeptTree tree.core → Outcome (IsCompaction (May tree.core) watermark) watermark r tree.core mid.core) → CompactsAct (May now.core) watermark r (world now.store) (world mid.store) now (logged_with mid numbers doubted)
+answered_acts May watermark world tree mid numbers doubted now = answers_act (λ c. IsCompaction (May c) watermark) watermark (λ c. any_of (May c) watermark) world tree mid numbers doubted now
+
+-- so a strategy begins one: it drops none but tables that the strategy may drop
+pub begun_acts : {S : Type 0} {may_choose : Relation Choice} {may_refuse : Relation ChooseError} (o : Options) (world : S → World) (tree mid : Seen S) (numbers : List ℕ) (doubted : Bool) (now : SeenLogged S) → logged_with tree numbers doubted ≡ now → IsKeptTree now.core → now.core.seqno < 2 ^ 64 → PlainNumbersAreRead → doubted ≡ false
+    → Upholds (world tree.store) (world mid.store) tree.core mid.core → (r : Result Begun Error) → CompactionsAreDeeds → FlushesAreDeeds → BeginsCompaction may_choose may_refuse o r tree.core mid.core → CompactsAct (MayDropIds may_choose now.core) o.mvcc_gc_watermark r (world now.store) (world mid.store) now (logged_with mid numbers doubted)
+begun_acts {may_choose = may} {may_refuse = refuse} o world tree mid numbers doubted now same kept small read sure commits r law flushes begins =
+    answered_acts (MayDropIds may) o.mvcc_gc_watermark world tree mid numbers doubted now same kept small read sure commits r
+    (λ here. begun_outcome (IsCompaction (MayDropIds may tree.core) o.mvcc_gc_watermark) may refuse o r tree.core mid.core (chosen_allowed may o.mvcc_gc_watermark tree.core) law here (flushes.spends o.mvcc_gc_watermark 0 tree.core here) begins)

@@ -1,6 +1,6 @@
 -- Compactions in one call of a logged tree are acts of the theory.
 use Rattle.std.specs.Bool.{MatchBool}
-use Rattle.std.proofs.Common.{◌≡◌, ◌⊎◌, ⊎_elim, inl, inr, ℕ, ◌+◌, ◌≤◌, true, false, Bool, List, Option, Some, None, IsSome, Result, Ok, Err, IsErrOf, refl, sym, ap, ◌∙◌, subst, arith}
+use Rattle.std.proofs.Common.{◌≡◌, ◌⊎◌, ⊎_elim, inl, inr, ℕ, ◌+◌, ◌<◌, ◌≤◌, ◌^◌, true, false, Bool, List, Option, Some, None, IsSome, Result, Ok, Err, IsErrOf, refl, sym, ap, ◌∙◌, subst, arith}
 use Rattle.lsm_below.specs.declared.error.Error.{Error}
 use Rattle.lsm_below.specs.declared.error.Error.TheVariants.{OutOfMemory, CommitUnknown, Unrecoverable, AfterCommit}
 use Rattle.lsm_compaction.specs.Merges.{SeenCompaction}
@@ -19,16 +19,23 @@ use Rattle.lsm_state.specs.declared.compaction.Begun.{Begun}
 use Rattle.lsm_state.specs.declared.compaction.Begun.TheVariants.{DidNothing, Declined, Installed, Job}
 use Rattle.lsm_state.specs.declared.compaction.Finished.{Finished}
 use Rattle.lsm_state.specs.declared.compaction.Finished.TheVariants.{Declined as Over, Installed as Whole}
-use Rattle.lsm_state.specs.Core.{Core, written_of}
+use Rattle.lsm_below.specs.Numbers.{PlainNumbersAreRead}
+use Rattle.lsm_store.specs.World.{World}
+use Rattle.lsm_state.specs.Commits.{Upholds}
+use Rattle.lsm_state.specs.Core.{Core, Seen, written_of}
+use Rattle.lsm_state.specs.FlushLaws.{FlushesAreDeeds}
 use Rattle.lsm_state.specs.Kept.{IsKeptTree}
 use Rattle.lsm_state.specs.Deeds.{HasOrder, IsMarkDeed}
 use Rattle.lsm_state.specs.Compactions.{Relation, MayAnswer, Does, BeginsChoice, Finishes, Spends, job_for, levels_of}
+use Rattle.lsm_state.specs.Dropping.{IsDropOf, MayDropIds}
 use Rattle.lsm_state.specs.CompactionDeeds.{ChoiceDeeds, merge_of, MergeDeeds, CompactionsAreDeeds}
 use Rattle.lsm_state.specs.WholeCompactions.{told_end, Completes, Follows, CompactsChoice, Compacts, DropsRange, options_at, only_memory, major_choice, drop_choice}
 use Rattle.lsm_state.proofs.Distinct.{own_behind}
-use Rattle.lsm_logged.specs.Acting.{IsCompaction, IsMerging, DropsWithin}
+use Rattle.lsm_logged.specs.Acting.{IsCompaction, IsAnyCompaction, IsMerging, DropsWithin, CompactsAct}
+use Rattle.lsm_logged.specs.Keeping.{SeenLogged}
+use Rattle.lsm_logged.proofs.Seen.{logged_with}
 use Rattle.lsm_logged.specs.Removing.{log_from_of}
-use Rattle.lsm_logged.proofs.Compacted.{StaysMarked, Installs, Doubts, Outcome, Allows, any_allowed, IsFree, Stays, stays_same, choice_outcome, begun_outcome, quiet_outcome, same_marked, was_free, ok_of}
+use Rattle.lsm_logged.proofs.Compacted.{StaysMarked, Installs, Doubts, Outcome, Allows, choice_allowed, chosen_allowed, IsFree, Stays, stays_same, choice_outcome, begun_outcome, quiet_outcome, same_marked, was_free, ok_of, answered_acts}
 use Rattle.lsm_logged.proofs.Merged.{IsOver, is_in, in_doubt, over, merged_done, merged_lost, mark_alone}
 use Rattle.lsm_logged.proofs.RegisterActs.{was_certain}
 use Rattle.lsm_logged.proofs.Rising.{finishes, spends}
@@ -176,11 +183,12 @@ jobs_of : (May : Action → Type 0) (choice : Choice) (o : Options) → Allows M
     → (job : SeenCompaction) → begun ≡ Ok (Job job) → IsBegunFor May o.mvcc_gc_watermark job old mid
 jobs_of May choice o may begun old mid begins deeds job e = begun_for May choice o may job old mid (subst (λ x. BeginsChoice choice o x old mid) e begins) (subst (λ x. ChoiceDeeds choice o.mvcc_gc_watermark x old mid) e deeds)
 
-pub compacts_choice_outcome : (choice : Choice) (o : Options) (r : Result Begun Error) (old new : Core) → CompactsChoice choice o r old new → Outcome (IsCompaction o.mvcc_gc_watermark) o.mvcc_gc_watermark r old new
+pub compacts_choice_outcome : (choice : Choice) (o : Options) (r : Result Begun Error) (old new : Core) → CompactsChoice choice o r old new → Outcome (IsCompaction (IsDropOf choice) o.mvcc_gc_watermark) o.mvcc_gc_watermark r old new
 compacts_choice_outcome choice o r old new c =
     let w = o.mvcc_gc_watermark in
-    let may = any_allowed w choice in
-    followed (IsCompaction w) w c.begun r old c.mid new (choice_outcome (IsCompaction w) choice o may c.begun old c.mid c.begins c.deeds) (jobs_of (IsCompaction w) choice o may c.begun old c.mid c.begins c.deeds) c.follows
+    let may = choice_allowed w choice in
+    followed (IsCompaction (IsDropOf choice) w) w c.begun r old c.mid new (choice_outcome (IsCompaction (IsDropOf choice) w) choice o may c.begun old c.mid c.begins c.deeds)
+    (jobs_of (IsCompaction (IsDropOf choice) w) choice o may c.begun old c.mid c.begins c.deeds) c.follows
 
 no_begun : (e : Error) (job : SeenCompaction) → Err e ≡ ok_of (Job job) → ⊥
 no_begun e job z = cc z
@@ -199,12 +207,19 @@ compacts_as May may_choose may_refuse o r old new may law kept deed c =
         (λ b. absurd (no_begun _ job (sym b.2 ∙ e)))
         (c.begins.chosen certain)
 
-pub compacts_outcome : (may_choose : Relation Choice) (may_refuse : Relation ChooseError) (o : Options) (r : Result Begun Error) (old new : Core) → CompactionsAreDeeds → IsKeptTree old → IsMarkDeed o.mvcc_gc_watermark old old → Compacts may_choose may_refuse o r old new → Outcome (IsCompaction o.mvcc_gc_watermark) o.mvcc_gc_watermark r old new
-compacts_outcome may_choose may_refuse o r old new = compacts_as (IsCompaction o.mvcc_gc_watermark) may_choose may_refuse o r old new (λ choice may. any_allowed o.mvcc_gc_watermark choice)
+pub compacts_outcome : (may_choose : Relation Choice) (may_refuse : Relation ChooseError) (o : Options) (r : Result Begun Error) (old new : Core) → CompactionsAreDeeds → IsKeptTree old → IsMarkDeed o.mvcc_gc_watermark old old → Compacts may_choose may_refuse o r old new → Outcome (IsCompaction (MayDropIds may_choose old) o.mvcc_gc_watermark) o.mvcc_gc_watermark r old new
+compacts_outcome may_choose may_refuse o r old new = compacts_as (IsCompaction (MayDropIds may_choose old) o.mvcc_gc_watermark) may_choose may_refuse o r old new (chosen_allowed may_choose o.mvcc_gc_watermark old)
+
+-- so as acts of the theory
+pub compacted_acts : {S : Type 0} {may_choose : Relation Choice} {may_refuse : Relation ChooseError} (o : Options) (world : S → World) (tree mid : Seen S) (numbers : List ℕ) (doubted : Bool) (now : SeenLogged S) → logged_with tree numbers doubted ≡ now → IsKeptTree now.core → now.core.seqno < 2 ^ 64 → PlainNumbersAreRead → doubted ≡ false
+    → Upholds (world tree.store) (world mid.store) tree.core mid.core → (r : Result Begun Error) → CompactionsAreDeeds → FlushesAreDeeds → Compacts may_choose may_refuse o r tree.core mid.core → CompactsAct (MayDropIds may_choose now.core) o.mvcc_gc_watermark r (world now.store) (world mid.store) now (logged_with mid numbers doubted)
+compacted_acts {may_choose = may} {may_refuse = refuse} o world tree mid numbers doubted now same kept small read sure commits r law flushes compacts =
+    answered_acts (MayDropIds may) o.mvcc_gc_watermark world tree mid numbers doubted now same kept small read sure commits r
+    (λ here. compacts_outcome may refuse o r tree.core mid.core law here (flushes.spends o.mvcc_gc_watermark 0 tree.core here) compacts)
 
 -- ---- a merge of all tables
 
-pub merging_only : (w : ℕ) (action : Action) → IsMerging w action → IsCompaction w action
+pub merging_only : (w : ℕ) (action : Action) → IsMerging w action → IsAnyCompaction w action
 merging_only w (Merged k d ids evict made) is = is
 merging_only w action is = absurd is
 
@@ -224,7 +239,7 @@ major_outcome target w r old new = compacts_as (IsMerging w) (major_choice targe
 
 -- ---- a drop of tables
 
-pub dropping_only : (bounds : OwnedBounds) (c : Core) (action : Action) → DropsWithin bounds c action → IsCompaction 0 action
+pub dropping_only : (bounds : OwnedBounds) (c : Core) (action : Action) → DropsWithin bounds c action → IsAnyCompaction 0 action
 dropping_only bounds c (DroppedTables ids) is = tt
 dropping_only bounds c action is = absurd is
 

@@ -151,12 +151,16 @@ FlushesBothAct watermark r w w' old new = ForEachLog w old (ActsByBoth watermark
 
 -- ---- a compaction
 
--- a merge at this watermark, a move or a drop
-abbrev pub IsCompaction : ℕ → Action → Type 0
-IsCompaction watermark (Merged w d ids evict made) = w ≡ watermark
-IsCompaction watermark (Moved d ids moved) = Unit {0}
-IsCompaction watermark (DroppedTables ids) = Unit {0}
-IsCompaction watermark other = ⊥
+-- a merge at this watermark, a move, or a drop of tables that may be dropped
+abbrev pub IsCompaction : (List ℕ → Type 0) → ℕ → Action → Type 0
+IsCompaction May watermark (Merged w d ids evict made) = w ≡ watermark
+IsCompaction May watermark (Moved d ids moved) = Unit {0}
+IsCompaction May watermark (DroppedTables ids) = May ids
+IsCompaction May watermark other = ⊥
+
+-- of any tables
+abbrev pub IsAnyCompaction : ℕ → Action → Type 0
+IsAnyCompaction watermark = IsCompaction (λ ids. Unit {0}) watermark
 
 -- a merge at this watermark alone
 abbrev pub IsMerging : ℕ → Action → Type 0
@@ -191,9 +195,9 @@ pub record ActsByCompaction {S : Type 0} (May : Action → Type 0) (watermark : 
 abbrev pub CompactsBy : {S : Type 0} → (Action → Type 0) → ℕ → Result Begun Error → World → World → SeenLogged S → SeenLogged S → Type 0
 CompactsBy May watermark r w w' old new = ForEachLog w old (ActsByCompaction May watermark r w w' old new)
 
--- any compaction at the watermark
-abbrev pub CompactsAct : {S : Type 0} → ℕ → Result Begun Error → World → World → SeenLogged S → SeenLogged S → Type 0
-CompactsAct watermark r w w' old new = CompactsBy (IsCompaction watermark) watermark r w w' old new
+-- a compaction at the watermark, which drops none but tables that may be dropped
+abbrev pub CompactsAct : {S : Type 0} → (List ℕ → Type 0) → ℕ → Result Begun Error → World → World → SeenLogged S → SeenLogged S → Type 0
+CompactsAct May watermark r w w' old new = CompactsBy (IsCompaction May watermark) watermark r w w' old new
 
 -- ---- the end of a merge
 

@@ -4,6 +4,7 @@ ghost use Rattle.lsm_below.specs.Numbers.{PlainNumbersAreRead};
 ghost use Rattle.lsm_state.specs.Commits.{Upholds};
 ghost use Rattle.lsm_state.specs.CompactionDeeds.{CompactionsAreDeeds};
 ghost use Rattle.lsm_state.specs.Compactions.{BeginsChoice, BeginsCompaction, Spends};
+ghost use Rattle.lsm_state.specs.Dropping.{IsDropOf, MayDropIds};
 ghost use Rattle.lsm_state.specs.FlushLaws.{FlushesAreDeeds};
 ghost use Rattle.lsm_state.specs.Kept.{IsKeptTree};
 ghost use Rattle.lsm_state.specs.WholeCompactions.{as_begun, CompactsChoice, Compacts, DropsRange, options_at, only_memory, major_choice};
@@ -33,7 +34,8 @@ macro_rules! unless_doubted {
 }
 
 /// Compactions, each as that of the tree below it. Their clauses say what a call answers and does (`asks`); what it is to the
-/// theory of the log (`acts`), most often an installed compaction, or one of unknown outcome, else the mark of its watermark;
+/// theory of the log (`acts`), most often an installed compaction, or one of unknown outcome, which drops just tables that were chosen to be dropped, else the
+/// mark of its watermark;
 /// what a crash leaves of the tree's files and of names that are none of its own (`upholds`); what it does to files (`files`);
 /// and that after an unknown outcome it makes no call of the store (`no_call`).
 impl<S: Store> Logged<S> {
@@ -59,7 +61,7 @@ impl<S: Store> Logged<S> {
     /// As that call, and `Unrecoverable` also where a record has unknown outcome.
     pub fn begin_choice(&mut self, choice: Choice, options: Options) -> Result<Begun, Error>
         ensures asks { Asks result self.old self.new (BeginsChoice choice options result self.old.core self.new.core) }
-        ensures acts { S.tells → CompactsAct options.mvcc_gc_watermark result (S.world self.old.store) (S.world self.new.store) self.old self.new }
+        ensures acts { S.tells → CompactsAct (IsDropOf choice) options.mvcc_gc_watermark result (S.world self.old.store) (S.world self.new.store) self.old self.new }
         ensures upholds { S.tells → Upholds (S.world self.old.store) (S.world self.new.store) self.old.core self.new.core }
         ensures files { BeginsFiles result S.tells S.world (tree_of self.old) (tree_of self.new) }
         ensures no_call { is_unsure self.old ≡ true → self.new.store ≡ self.old.store }
@@ -78,7 +80,7 @@ impl<S: Store> Logged<S> {
         options: Options,
     ) -> Result<Begun, Error>
         ensures asks { Asks result self.old self.new (BeginsCompaction (may_choose strategy.now) (may_refuse strategy.now) options result self.old.core self.new.core) }
-        ensures acts { S.tells → CompactsAct options.mvcc_gc_watermark result (S.world self.old.store) (S.world self.new.store) self.old self.new }
+        ensures acts { S.tells → CompactsAct (MayDropIds (may_choose strategy.now) self.old.core) options.mvcc_gc_watermark result (S.world self.old.store) (S.world self.new.store) self.old self.new }
         ensures upholds { S.tells → Upholds (S.world self.old.store) (S.world self.new.store) self.old.core self.new.core }
         ensures files { BeginsFiles result S.tells S.world (tree_of self.old) (tree_of self.new) }
         ensures no_call { is_unsure self.old ≡ true → self.new.store ≡ self.old.store }
@@ -97,7 +99,7 @@ impl<S: Store> Logged<S> {
         options: Options,
     ) -> Result<Begun, Error>
         ensures asks { Asks result self.old self.new (BeginsCompaction (C.may_choose strategy.now) (C.may_refuse strategy.now) options result self.old.core self.new.core) }
-        ensures acts { S.tells → CompactsAct options.mvcc_gc_watermark result (S.world self.old.store) (S.world self.new.store) self.old self.new }
+        ensures acts { S.tells → CompactsAct (MayDropIds (C.may_choose strategy.now) self.old.core) options.mvcc_gc_watermark result (S.world self.old.store) (S.world self.new.store) self.old self.new }
         ensures upholds { S.tells → Upholds (S.world self.old.store) (S.world self.new.store) self.old.core self.new.core }
         ensures files { BeginsFiles result S.tells S.world (tree_of self.old) (tree_of self.new) }
         ensures no_call { is_unsure self.old ≡ true → self.new.store ≡ self.old.store }
@@ -151,7 +153,7 @@ impl<S: Store> Logged<S> {
         options: Options,
     ) -> Result<Option<Finished>, Error>
         ensures asks { Asks (as_begun result) self.old self.new (CompactsChoice choice options (as_begun result) self.old.core self.new.core) }
-        ensures acts { S.tells → CompactsAct options.mvcc_gc_watermark (as_begun result) (S.world self.old.store) (S.world self.new.store) self.old self.new }
+        ensures acts { S.tells → CompactsAct (IsDropOf choice) options.mvcc_gc_watermark (as_begun result) (S.world self.old.store) (S.world self.new.store) self.old self.new }
         ensures upholds { S.tells → Upholds (S.world self.old.store) (S.world self.new.store) self.old.core self.new.core }
         ensures files { CompactsFiles (as_begun result) S.tells S.world (tree_of self.old) (tree_of self.new) }
         ensures no_call { is_unsure self.old ≡ true → self.new.store ≡ self.old.store }
@@ -170,7 +172,7 @@ impl<S: Store> Logged<S> {
         watermark: SeqNo,
     ) -> Result<Option<Finished>, Error>
         ensures asks { Asks (as_begun result) self.old self.new (Compacts (may_choose strategy.now) (may_refuse strategy.now) (options_at watermark self.old.core) (as_begun result) self.old.core self.new.core) }
-        ensures acts { S.tells → CompactsAct watermark (as_begun result) (S.world self.old.store) (S.world self.new.store) self.old self.new }
+        ensures acts { S.tells → CompactsAct (MayDropIds (may_choose strategy.now) self.old.core) watermark (as_begun result) (S.world self.old.store) (S.world self.new.store) self.old self.new }
         ensures upholds { S.tells → Upholds (S.world self.old.store) (S.world self.new.store) self.old.core self.new.core }
         ensures files { CompactsFiles (as_begun result) S.tells S.world (tree_of self.old) (tree_of self.new) }
         ensures no_call { is_unsure self.old ≡ true → self.new.store ≡ self.old.store }
@@ -189,7 +191,7 @@ impl<S: Store> Logged<S> {
         options: Options,
     ) -> Result<Option<Finished>, Error>
         ensures asks { Asks (as_begun result) self.old self.new (Compacts (C.may_choose strategy.now) (C.may_refuse strategy.now) options (as_begun result) self.old.core self.new.core) }
-        ensures acts { S.tells → CompactsAct options.mvcc_gc_watermark (as_begun result) (S.world self.old.store) (S.world self.new.store) self.old self.new }
+        ensures acts { S.tells → CompactsAct (MayDropIds (C.may_choose strategy.now) self.old.core) options.mvcc_gc_watermark (as_begun result) (S.world self.old.store) (S.world self.new.store) self.old self.new }
         ensures upholds { S.tells → Upholds (S.world self.old.store) (S.world self.new.store) self.old.core self.new.core }
         ensures files { CompactsFiles (as_begun result) S.tells S.world (tree_of self.old) (tree_of self.new) }
         ensures no_call { is_unsure self.old ≡ true → self.new.store ≡ self.old.store }

@@ -1,5 +1,6 @@
+use Rattle.lsm_state.specs.Dropping.{IsDropOf}
 use Rattle.lsm_logged.specs.Acting.{IsCompaction}
-use Rattle.lsm_logged.proofs.Compacted.{any_allowed, choice_outcome, answered_acts, unsure_acts}
+use Rattle.lsm_logged.proofs.Compacted.{choice_allowed, choice_outcome, answered_acts, unsure_acts}
 use Rattle.lsm_logged.proofs.Reopening.{numbered_more}
 use Rattle.lsm_logged.proofs.Rising.{begins_choice}
 use Rattle.lsm_logged.proofs.logged.Logged.begin_choice.Goals as goal
@@ -14,8 +15,8 @@ returns-then-self-clause-acts g c tells =
 
 pub returns-clause-acts : goal.returns-clause-acts
 returns-clause-acts g c tells =
-    answered_acts c.args.options.mvcc_gc_watermark g.S.Store.world c.self.inside.tree c.begin_choice.new.self c.self.inside.numbers.items c.self.inside.doubted c.args.self.now c.self.view_is c.acts_are_known.ensures.tree c.acts_are_known.ensures.counter c.acts_are_known.ensures.numbers c.if-self.false (c.begin_choice.ensures.upholds tells) c.begin_choice.result
-    (λ kept. choice_outcome (IsCompaction c.args.options.mvcc_gc_watermark) c.args.choice c.args.options (any_allowed c.args.options.mvcc_gc_watermark c.args.choice) c.begin_choice.result c.self.inside.tree.core c.begin_choice.new.self.core c.begin_choice.ensures.begins (c.acts_are_known.ensures.compactions.choices c.args.choice c.args.options c.begin_choice.result c.self.inside.tree.core c.begin_choice.new.self.core kept c.begin_choice.ensures.begins))
+    answered_acts (λ tree. IsDropOf c.args.choice) c.args.options.mvcc_gc_watermark g.S.Store.world c.self.inside.tree c.begin_choice.new.self c.self.inside.numbers.items c.self.inside.doubted c.args.self.now c.self.view_is c.acts_are_known.ensures.tree c.acts_are_known.ensures.counter c.acts_are_known.ensures.numbers c.if-self.false (c.begin_choice.ensures.upholds tells) c.begin_choice.result
+    (λ kept. choice_outcome (IsCompaction (IsDropOf c.args.choice) c.args.options.mvcc_gc_watermark) c.args.choice c.args.options (choice_allowed c.args.options.mvcc_gc_watermark c.args.choice) c.begin_choice.result c.self.inside.tree.core c.begin_choice.new.self.core c.begin_choice.ensures.begins (c.acts_are_known.ensures.compactions.choices c.args.choice c.args.options c.begin_choice.result c.self.inside.tree.core c.begin_choice.new.self.core kept c.begin_choice.ensures.begins))
 
 pub returns-clause-files : goal.returns-clause-files
 returns-clause-files g c = rw (← c.self.view_is) c.begin_choice.ensures.files

@@ -1,5 +1,4 @@
-use Rattle.lsm_logged.specs.Acting.{IsCompaction}
-use Rattle.lsm_logged.proofs.Compacted.{any_allowed, begun_outcome, answered_acts, unsure_acts}
+use Rattle.lsm_logged.proofs.Compacted.{begun_acts, unsure_acts}
 use Rattle.lsm_logged.proofs.Reopening.{numbered_more}
 use Rattle.lsm_logged.proofs.Rising.{begins_compaction}
 use Rattle.lsm_logged.proofs.logged.Logged.begin_compaction.Goals as goal
@@ -14,8 +13,8 @@ returns-then-self-clause-acts g c tells =
 
 pub returns-clause-acts : goal.returns-clause-acts
 returns-clause-acts g c tells =
-    answered_acts c.args.options.mvcc_gc_watermark g.S.Store.world c.self.inside.tree c.begin_compaction.new.self c.self.inside.numbers.items c.self.inside.doubted c.args.self.now c.self.view_is c.acts_are_known.ensures.tree c.acts_are_known.ensures.counter c.acts_are_known.ensures.numbers c.if-self.false (c.begin_compaction.ensures.upholds tells) c.begin_compaction.result
-    (λ kept. begun_outcome (IsCompaction c.args.options.mvcc_gc_watermark) _ _ c.args.options c.begin_compaction.result c.self.inside.tree.core c.begin_compaction.new.self.core (λ choice may. any_allowed c.args.options.mvcc_gc_watermark choice) c.acts_are_known.ensures.compactions kept (c.acts_are_known.ensures.flushes.spends c.args.options.mvcc_gc_watermark 0 c.self.inside.tree.core kept) c.begin_compaction.ensures.begins)
+    begun_acts c.args.options g.S.Store.world c.self.inside.tree c.begin_compaction.new.self c.self.inside.numbers.items c.self.inside.doubted c.args.self.now c.self.view_is c.acts_are_known.ensures.tree c.acts_are_known.ensures.counter c.acts_are_known.ensures.numbers c.if-self.false (c.begin_compaction.ensures.upholds tells) c.begin_compaction.result
+    c.acts_are_known.ensures.compactions c.acts_are_known.ensures.flushes c.begin_compaction.ensures.begins
 
 pub returns-clause-files : goal.returns-clause-files
 returns-clause-files g c = rw (← c.self.view_is) c.begin_compaction.ensures.files

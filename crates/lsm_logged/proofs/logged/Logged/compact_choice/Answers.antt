@@ -1,5 +1,6 @@
 use Rattle.std.proofs.Common.{refl}
 use Rattle.lsm_state.specs.WholeCompactions.{as_begun}
+use Rattle.lsm_state.specs.Dropping.{IsDropOf}
 use Rattle.lsm_logged.specs.Keeping.{tree_of}
 use Rattle.lsm_logged.proofs.Compacted.{answered_acts, unsure_acts}
 use Rattle.lsm_logged.proofs.WholeActs.{compacts_choice_outcome}
@@ -19,7 +20,7 @@ returns-then-self-clause-acts g c tells =
 
 pub returns-clause-acts : goal.returns-clause-acts
 returns-clause-acts g c tells =
-    answered_acts c.args.options.mvcc_gc_watermark g.S.Store.world c.self.inside.tree c.compact_choice.new.self c.self.inside.numbers.items c.self.inside.doubted c.args.self.now c.self.view_is c.acts_are_known.ensures.tree c.acts_are_known.ensures.counter c.acts_are_known.ensures.numbers c.if-self.false (c.compact_choice.ensures.upholds tells) (as_begun c.compact_choice.result)
+    answered_acts (λ tree. IsDropOf c.args.choice) c.args.options.mvcc_gc_watermark g.S.Store.world c.self.inside.tree c.compact_choice.new.self c.self.inside.numbers.items c.self.inside.doubted c.args.self.now c.self.view_is c.acts_are_known.ensures.tree c.acts_are_known.ensures.counter c.acts_are_known.ensures.numbers c.if-self.false (c.compact_choice.ensures.upholds tells) (as_begun c.compact_choice.result)
     (λ kept. compacts_choice_outcome c.args.choice c.args.options (as_begun c.compact_choice.result) c.self.inside.tree.core c.compact_choice.new.self.core c.compact_choice.ensures.compacts)
 
 pub returns-then-self-clause-files : goal.returns-then-self-clause-files

@@ -1,8 +1,8 @@
 use Rattle.std.proofs.Common.{refl}
 use Rattle.lsm_state.specs.WholeCompactions.{as_begun}
 use Rattle.lsm_logged.specs.Keeping.{tree_of}
-use Rattle.lsm_logged.proofs.Compacted.{answered_acts, unsure_acts}
-use Rattle.lsm_logged.proofs.WholeActs.{compacts_outcome}
+use Rattle.lsm_logged.proofs.Compacted.{unsure_acts}
+use Rattle.lsm_logged.proofs.WholeActs.{compacted_acts}
 use Rattle.lsm_logged.proofs.Reopening.{numbered_more}
 use Rattle.lsm_logged.proofs.Rising.{compacts}
 use Rattle.lsm_state.proofs.Files.{refused_compacts}
@@ -19,8 +19,8 @@ returns-then-self-clause-acts g c tells =
 
 pub returns-clause-acts : goal.returns-clause-acts
 returns-clause-acts g c tells =
-    answered_acts c.args.options.mvcc_gc_watermark g.S.Store.world c.self.inside.tree c.compact_with.new.self c.self.inside.numbers.items c.self.inside.doubted c.args.self.now c.self.view_is c.acts_are_known.ensures.tree c.acts_are_known.ensures.counter c.acts_are_known.ensures.numbers c.if-self.false (c.compact_with.ensures.upholds tells) (as_begun c.compact_with.result)
-    (λ kept. compacts_outcome _ _ c.args.options (as_begun c.compact_with.result) c.self.inside.tree.core c.compact_with.new.self.core c.acts_are_known.ensures.compactions kept (c.acts_are_known.ensures.flushes.spends c.args.options.mvcc_gc_watermark 0 c.self.inside.tree.core kept) c.compact_with.ensures.compacts)
+    compacted_acts c.args.options g.S.Store.world c.self.inside.tree c.compact_with.new.self c.self.inside.numbers.items c.self.inside.doubted c.args.self.now c.self.view_is c.acts_are_known.ensures.tree c.acts_are_known.ensures.counter c.acts_are_known.ensures.numbers c.if-self.false (c.compact_with.ensures.upholds tells) (as_begun c.compact_with.result)
+    c.acts_are_known.ensures.compactions c.acts_are_known.ensures.flushes c.compact_with.ensures.compacts
 
 pub returns-then-self-clause-files : goal.returns-then-self-clause-files
 returns-then-self-clause-files g c = refused_compacts g.S.Store.tells g.S.Store.world _ (tree_of c.args.self.now) (tree_of c.args.self.now) no_way refl refl
