@@ -21,42 +21,35 @@ use Rattle.lsm_runs.specs.Compacting.{Strategies}
 use Rattle.lsm_runs.specs.Files.{StaysStored}
 use Rattle.lsm_runs.specs.Moments.{RunHasMoments}
 use Rattle.lsm_runs.specs.Told.{Told}
+use Rattle.lsm_runs.specs.Dropping.{Drops}
 use Rattle.lsm_runs.proofs.Small.{found_low}
+use Rattle.lsm_runs.proofs.Starting.{starts_above, found_same}
 use Rattle.example_crash.specs.Single.{KeepsOrder, MayBeOpened, HasLived, HasTaken}
 use Rattle.example_crash.proofs.Carried.{Laws, has_taken}
 use Rattle.example_crash.proofs.Joining.{begun}
 use Rattle.example_crash.proofs.Surviving.{finds_new}
 use Rattle.example_crash.proofs.Taking.{here, none_taken}
 
-module _ (laws : Laws) (finds : OpeningFinds MemStore world_of) (leaves : OpeningLeavesRead MemStore world_of) (strategies : Strategies) (was : MemStore) (config : Config) (first : MemStore) (old : Core)
+module _ (May : Drops) (laws : Laws) (finds : OpeningFinds MemStore world_of) (leaves : OpeningLeavesRead MemStore world_of) (strategies : Strategies) (was : MemStore) (config : Config) (first : MemStore) (old : Core)
     (opens : OpensTree world_of was (Ok (record { store = first; core = old }))) (core : old ≡ opened_core (raised (capped (above (found_entries old))) config) old.history.latest.version old.next_table) (small : HasSmallNumbers old.history.latest.version.levels) where
-  low : above (found_entries old) ≤ 2 ^ 63
-  low = found_low old.history.latest.version.levels small
-
-  starts : old.seqno ≡ max config.seqno (above (found_entries old))
-  starts = let is : old.seqno ≡ max config.seqno (capped (above (found_entries old))) = ap (λ (c : Core). c.seqno) core in let h = low in omega (arith, is, h)
-
-  same : (levels : Levels) → Finds (world_of was).gives levels → old.history.latest.version.levels ≡ levels
-  same levels f = finds was first levels (Ok (record { version = old.history.latest.version; next_table_id = old.next_table })) f (λ none there. opens.opens.opens none there) (λ none absent. opens.opens.fresh none absent)
-
-  pub has_opened : (m : Map) → MayBeOpened was m → next_number (found_entries old) [] ≤ old.seqno → (answers : List Told) (is : MemStore) (now : Core) → answers ≡ [] → RunHasMoments world_of strategies (take (length answers) []) answers (here world_of first old) is now → RunIsRight strategies (take (length answers) []) answers old now
-      → StaysStored (world_of first) (world_of is) old now → HasTaken m was config.seqno [] [] (record { store = is; core = now })
+  pub has_opened : (m : Map) → MayBeOpened was m → next_number (found_entries old) [] ≤ old.seqno → (answers : List Told) (is : MemStore) (now : Core) → answers ≡ [] → RunHasMoments world_of strategies (take (length answers) []) answers (here May world_of first old) is now → RunIsRight strategies (take (length answers) []) answers old now
+      → StaysStored (world_of first) (world_of is) old now → HasTaken May m was config.seqno [] [] (record { store = is; core = now })
   has_opened m may counted answers is now e run right stays =
-      let nothing = none_taken world_of strategies [] answers first is old now e run right in
+      let nothing = none_taken May world_of strategies [] answers first is old now e run right in
       let shows = opens.shows m may.stands in
-      has_taken laws m was (found_entries old) old.seqno [] [] is now
-      (begun world_of laws.join laws.kept strategies m was first is old now (found_entries old) nothing.0 nothing.1 stays shows.starts (ap (λ (c : Core). c.lost) core) (opens.stored may.ready) low counted
-      (λ levels f. ap (λ ls. held (placed_of ls)) (same levels f)) (λ tables f. leaves was first tables may.ready f opens.leaves)) config.seqno starts
+      has_taken May laws m was (found_entries old) old.seqno [] [] is now
+      (begun May world_of laws.join laws.kept strategies m was first is old now (found_entries old) nothing.0 nothing.1 stays shows.starts (ap (λ (c : Core). c.lost) core) (opens.stored may.ready) (found_low old.history.latest.version.levels small) counted
+      (found_same world_of finds was first old opens) (λ tables f. leaves was first tables may.ready f opens.leaves)) config.seqno (starts_above config old core small)
 
 -- ---- a new store
 
-module _ (m : Map) (was : MemStore) (from : ℕ) (steps : List Step) (told : List Told) (is : MemStore) (new : Begins none (world_of was)) (h : HasLived m was from steps told is) where
-  opened_none : h.opened ≡ []
-  opened_none = h.found empty_levels (finds_new was new)
+module _ (May : Drops) (m : Map) (was : MemStore) (from : ℕ) (steps : List Step) (told : List Told) (is : MemStore) (new : Begins none (world_of was)) (h : HasLived May m was from steps told is) where
+  opened_none : h.lives.opened ≡ []
+  opened_none = h.lives.found empty_levels (finds_new was new)
 
   -- on which nothing is found, so that the counter stands where it was put
-  pub new_counter : h.counter ≡ from
-  new_counter = let starts = h.starts in let none_above = ap above opened_none in omega (arith, starts, none_above)
+  pub new_counter : h.lives.counter ≡ from
+  new_counter = let starts = h.lives.starts in let none_above = ap above opened_none in omega (arith, starts, none_above)
 
-  pub new_keeps : (list : List Step) → KeepsOrder [] from list → KeepsOrder h.opened h.counter list
-  new_keeps list k = subst (λ (es : List Entry). KeepsOrder es h.counter list) (sym opened_none) (subst (λ (n : ℕ). KeepsOrder [] n list) (sym new_counter) k)
+  pub new_keeps : (list : List Step) → KeepsOrder [] from list → KeepsOrder h.lives.opened h.lives.counter list
+  new_keeps list k = subst (λ (es : List Entry). KeepsOrder es h.lives.counter list) (sym opened_none) (subst (λ (n : ℕ). KeepsOrder [] n list) (sym new_counter) k)

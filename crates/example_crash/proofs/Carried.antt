@@ -25,7 +25,9 @@ use Rattle.lsm_runs.specs.Files.{StaysStored}
 use Rattle.lsm_runs.specs.Drawing.{drawing_of, asks_of}
 use Rattle.lsm_runs.specs.Lives.{Rise}
 use Rattle.lsm_runs.specs.Moments.{Reopens, StaysReady, EachReady, RunHasMoments}
-use Rattle.lsm_runs.specs.Notes.{none_begun, EachTells}
+use Rattle.lsm_runs.specs.Dropping.{Drops, AllowsDrops}
+use Rattle.lsm_runs.specs.Notes.{EachTells}
+use Rattle.lsm_runs.specs.OpenFlushes.{none_begun}
 use Rattle.lsm_runs.specs.Told.{Told}
 use Rattle.lsm_runs.proofs.Uses.{drawings}
 use Rattle.example_crash.specs.Single.{KeepsOrder, HasTaken}
@@ -73,7 +75,7 @@ pub record Laws : Type 0 where
   pub join : (n : ℕ) → MomentsJoin Reply (Reopens n) world_of
   pub kept : HoldsIsKept
 
-module _ (laws : Laws) (m : Map) (was : MemStore) (opened : List Entry) (counter : ℕ) (steps : List Step) (told : List Told) (is : MemStore) (now : Core) (s : SoFar world_of m was opened counter steps told is now) where
+module _ (May : Drops) (laws : Laws) (m : Map) (was : MemStore) (opened : List Entry) (counter : ℕ) (steps : List Step) (told : List Told) (is : MemStore) (now : Core) (s : SoFar May world_of m was opened counter steps told is now) where
   abbrev past : Past
   past = after_all opened nothing s.outcomes
 
@@ -94,14 +96,14 @@ module _ (laws : Laws) (m : Map) (was : MemStore) (opened : List Entry) (counter
       let below : next_number opened (out.journal_of s.outcomes) ≤ most = subst (λ ds. next_number opened (out.journal_of s.outcomes) ≤ highest (At counter) ds) (sym (drawings steps)) (stays rise).below in
       laws.bounded opened past.journal most (omega (arith, next, below))
 
-  along : KeepsOrder opened counter steps → ((n : ℕ) → AreNumbered n opened past.journal → EachMoment (Reopens n) world_of opened m nothing s.outcomes s.first s.stores) × EachTells opened nothing none_begun steps s.outcomes
-  along k = all_of (λ xs os ss. LivesAlong world_of opened m xs os s.first ss) steps s.outcomes s.stores s.many_outcomes s.many_stores s.along k.plain (order k.rise)
+  along : KeepsOrder opened counter steps → ((n : ℕ) → AreNumbered n opened past.journal → EachMoment (Reopens n) world_of opened m nothing s.outcomes s.first s.stores) × EachTells May opened nothing none_begun steps s.outcomes
+  along k = all_of (λ xs os ss. LivesAlong May world_of opened m xs os s.first ss) steps s.outcomes s.stores s.many_outcomes s.many_stores s.along k.plain (order k.rise)
 
   holds : KeepsOrder opened counter steps → (n : ℕ) → AreNumbered n opened past.journal → (image : Image) → IsImage (may_of is.files) image → HoldsBeginning (Reopens n) m past (covered past.notes) image
   holds k n low image may =
       subst (λ (f : MemStore). LeavesNow (world_of f) (HoldsBeginning (Reopens n) m past (covered past.notes))) s.ends (last_now (Reopens n) world_of opened m nothing s.outcomes s.first s.stores ((along k).0 n low)) image (inl may)
 
-  leaves : KeepsOrder opened counter steps → (image : Image) → IsImage (may_of is.files) image → (left : Map) × Reopens (2 ^ 63) image left × IsLeftFrom m steps told left
+  leaves : KeepsOrder opened counter steps → (image : Image) → IsImage (may_of is.files) image → (left : Map) × Reopens (2 ^ 63) image left × IsLeftFrom May m steps told left
   leaves k image may =
       let held = holds k (2 ^ 63) s.numbered image may in
       (held.map, held.shows, record { opened = opened; outcomes = s.outcomes; replies = s.replies; tells = (along k).1; holds = held.begins })
@@ -109,15 +111,11 @@ module _ (laws : Laws) (m : Map) (was : MemStore) (opened : List Entry) (counter
   below : KeepsOrder opened counter steps → (image : Image) → IsImage (may_of is.files) image → (levels : Levels) → Finds image levels → above (held (placed_of levels)) ≤ most
   below k image may = (holds k most (numbered k.rise) image may).shows.below
 
-  pub has_taken : (from : ℕ) → counter ≡ max from (above opened) → HasTaken m was from steps told (record { store = is; core = now })
+  pub has_taken : (from : ℕ) → counter ≡ max from (above opened) → HasTaken May m was from steps told (record { store = is; core = now })
   has_taken from starts = record {
     lived = record {
-      opened = opened;
-      found = s.found;
-      counter = counter;
-      starts = starts;
-      lives = lived world_of m was opened counter steps told is now s laws.rising laws.without;
-      reads = λ k. answered world_of m was opened counter steps told is now s laws.rising k.plain k.rise;
+      lives = lived May world_of m was opened counter steps told is now s laws.rising laws.without from starts;
+      reads = λ k. answered May world_of m was opened counter steps told is now s laws.rising k.plain k.rise;
       leaves = leaves;
       below = below;
       ready = subst (λ (f : MemStore). IsReady (world_of f)) s.ends (last_stays world_of s.first s.stores s.ready).0;
@@ -130,26 +128,26 @@ module _ (laws : Laws) (m : Map) (was : MemStore) (opened : List Entry) (counter
 
 -- ---- one step more, or none
 
-module _ (laws : Laws) (strategies : Strategies) (m : Map) (was : MemStore) (from : ℕ) (steps : List Step) (told : List Told) (is : MemStore) (now : Core)
-    (h : HasTaken m was from steps told (record { store = is; core = now })) (list : List Step) (answers : List Told) (next : MemStore) (new : Core) (run : RunHasMoments world_of strategies (take (length answers) list) answers (here world_of is now) next new) (right : RunIsRight strategies (take (length answers) list) answers now new)
+module _ (May : Drops) (laws : Laws) (strategies : Strategies) (m : Map) (was : MemStore) (from : ℕ) (steps : List Step) (told : List Told) (is : MemStore) (now : Core)
+    (h : HasTaken May m was from steps told (record { store = is; core = now })) (list : List Step) (answers : List Told) (next : MemStore) (new : Core) (run : RunHasMoments world_of strategies (take (length answers) list) answers (here May world_of is now) next new) (right : RunIsRight strategies (take (length answers) list) answers now new)
     (stays : StaysStored (world_of is) (world_of next) now new) where
-  took : (x : Step) (t : Told) → list ≡ x ∷ [] → answers ≡ t ∷ [] → HasTaken m was from (steps ++ x ∷ []) (told ++ t ∷ []) (record { store = next; core = new })
-  took x t e f =
-      has_taken laws m was h.opened h.counter (steps ++ x ∷ []) (told ++ t ∷ []) next new
-      (one_more world_of laws.join laws.kept m was h.opened h.counter steps told is now h.so_far x t next new (took_singly world_of strategies list answers x t is next now new e f run right stays)) from h.starts
+  took : AllowsDrops May strategies → (x : Step) (t : Told) → list ≡ x ∷ [] → answers ≡ t ∷ [] → HasTaken May m was from (steps ++ x ∷ []) (told ++ t ∷ []) (record { store = next; core = new })
+  took allows x t e f =
+      has_taken May laws m was h.opened h.counter (steps ++ x ∷ []) (told ++ t ∷ []) next new
+      (one_more May world_of laws.join laws.kept m was h.opened h.counter steps told is now h.so_far x t next new (took_singly May world_of strategies allows list answers x t is next now new e f run right stays)) from h.starts
 
   -- the one of a list
-  pub took_it : (t : Told) → length list ≡ 1 → answers ≡ t ∷ [] → HasTaken m was from (steps ++ list) (told ++ t ∷ []) (record { store = next; core = new })
-  took_it t few f =
+  pub took_it : AllowsDrops May strategies → (t : Told) → length list ≡ 1 → answers ≡ t ∷ [] → HasTaken May m was from (steps ++ list) (told ++ t ∷ []) (record { store = next; core = new })
+  took_it allows t few f =
       let x = single_of list few in
-      subst (λ (xs : List Step). HasTaken m was from (steps ++ xs) (told ++ t ∷ []) (record { store = next; core = new })) (sym x.1) (took x.0 t x.1 f)
+      subst (λ (xs : List Step). HasTaken May m was from (steps ++ xs) (told ++ t ∷ []) (record { store = next; core = new })) (sym x.1) (took allows x.0 t x.1 f)
     where
       single_of : (xs : List Step) → length xs ≡ 1 → (x : Step) × (xs ≡ x ∷ [])
       single_of [] e = absurd (omega (e, arith))
       single_of (x ∷ []) e = (x, refl)
       single_of (x ∷ (y ∷ xs)) e = absurd (omega (e, arith))
 
-  pub took_none : answers ≡ [] → HasTaken m was from steps told (record { store = next; core = new })
+  pub took_none : answers ≡ [] → HasTaken May m was from steps told (record { store = next; core = new })
   took_none e =
-      let nothing = none_taken world_of strategies list answers is next now new e run right in
-      has_taken laws m was h.opened h.counter steps told next new (none_more world_of laws.join laws.kept strategies m was h.opened h.counter steps told is now h.so_far next new nothing.0 nothing.1 stays) from h.starts
+      let nothing = none_taken May world_of strategies list answers is next now new e run right in
+      has_taken May laws m was h.opened h.counter steps told next new (none_more May world_of laws.join laws.kept strategies m was h.opened h.counter steps told is now h.so_far next new nothing.0 nothing.1 stays) from h.starts

@@ -30,7 +30,9 @@ use Rattle.lsm_runs.specs.Drawing.{asks_of}
 use Rattle.lsm_runs.specs.Files.{StaysStored}
 use Rattle.lsm_runs.specs.Lives.{told_of}
 use Rattle.lsm_runs.specs.Moments.{Reopens, StandsAfter, EachReady, HasMoments, GoesOn, RunHasMoments}
-use Rattle.lsm_runs.specs.Notes.{none_begun, EachTells}
+use Rattle.lsm_runs.specs.Dropping.{Drops}
+use Rattle.lsm_runs.specs.Notes.{EachTells}
+use Rattle.lsm_runs.specs.OpenFlushes.{BegunFlush, none_begun}
 use Rattle.lsm_runs.specs.Runs.{IsPlainUse, EachAnswers, journal_of}
 use Rattle.lsm_runs.specs.Slots.{Closes}
 use Rattle.lsm_runs.specs.Told.{Told}
@@ -54,11 +56,11 @@ ready_more : {F : Type 0} (world : F → World) (was : F) (stores : List F) (is 
 ready_more world was [] is h k = k
 ready_more world was (s ∷ stores) is h k = (h.0, h.1, ready_more world s stores is h.2 k)
 
-tells_more : (opened : List Entry) (past : Past) (begun : ℕ → List ℕ) (steps : List Step) (outcomes : List (out.Told Reply)) (x : Step) (o : out.Told Reply) → EachTells opened past begun steps outcomes
-    → ((begun : ℕ → List ℕ) → EachTells opened (after_all opened past outcomes) begun (x ∷ []) (o ∷ [])) → EachTells opened past begun (steps ++ x ∷ []) (outcomes ++ o ∷ [])
-tells_more opened past begun [] [] x o h k = k begun
-tells_more opened past begun (y ∷ steps) (p ∷ outcomes) x o h k = (h.0, h.1, tells_more opened (after opened past p) _ steps outcomes x o h.2 k)
-tells_more opened past begun steps outcomes x o h k = absurd h
+tells_more : (May : Drops) (opened : List Entry) (past : Past) (begun : ℕ → BegunFlush) (steps : List Step) (outcomes : List (out.Told Reply)) (x : Step) (o : out.Told Reply) → EachTells May opened past begun steps outcomes
+    → ((begun : ℕ → BegunFlush) → EachTells May opened (after_all opened past outcomes) begun (x ∷ []) (o ∷ [])) → EachTells May opened past begun (steps ++ x ∷ []) (outcomes ++ o ∷ [])
+tells_more May opened past begun [] [] x o h k = k begun
+tells_more May opened past begun (y ∷ steps) (p ∷ outcomes) x o h k = (h.0, h.1, tells_more May opened (after opened past p) _ steps outcomes x o h.2 k)
+tells_more May opened past begun steps outcomes x o h k = absurd h
 
 journal_more : (told : List Told) (t : Told) → journal_of (told ++ t ∷ []) ≡ journal_of told ++ journal_of (t ∷ [])
 journal_more [] t = refl
@@ -72,10 +74,10 @@ answers_more opened start before (y ∷ steps) (u ∷ told) x t e h k =
 answers_more opened start before [] (u ∷ told) x t e h k = absurd (omega (e, arith))
 answers_more opened start before (y ∷ steps) [] x t e h k = absurd (omega (e, arith))
 
-module _ {F : Type 0} (world : F → World) (join : (n : ℕ) → MomentsJoin Reply (Reopens n) world) (kept : HoldsIsKept) where
+module _ {F : Type 0} (May : Drops) (world : F → World) (join : (n : ℕ) → MomentsJoin Reply (Reopens n) world) (kept : HoldsIsKept) where
   -- ---- one step more
 
-  module _ (m : Map) (was : F) (opened : List Entry) (counter : ℕ) (steps : List Step) (told : List Told) (is : F) (now : Core) (s : SoFar world m was opened counter steps told is now) (x : Step) (t : Told) (next : F) (new : Core) (one : TookOne world x t is next now new) where
+  module _ (m : Map) (was : F) (opened : List Entry) (counter : ℕ) (steps : List Step) (told : List Told) (is : F) (now : Core) (s : SoFar May world m was opened counter steps told is now) (x : Step) (t : Told) (next : F) (new : Core) (one : TookOne May world x t is next now new) where
     abbrev o : out.Told Reply
     o = outcome x t now
 
@@ -83,7 +85,7 @@ module _ {F : Type 0} (world : F → World) (join : (n : ℕ) → MomentsJoin Re
     past = after_all opened nothing s.outcomes
 
     abbrev Along : List Step → List (out.Told Reply) → List F → Type 0
-    Along xs os ss = LivesAlong world opened m xs os s.first ss
+    Along xs os ss = LivesAlong May world opened m xs os s.first ss
 
     plain_before : IsPlainUse (steps ++ x ∷ []) → IsPlainUse steps
     plain_before plain i = plain (in_front ClearActiveMemtable steps (x ∷ []) i)
@@ -116,7 +118,7 @@ module _ {F : Type 0} (world : F → World) (join : (n : ℕ) → MomentsJoin Re
               let low' : AreNumbered n opened (after opened past o).journal = subst (λ (p : Past). AreNumbered n opened p.journal) e low in
               let moments = one.moments opened m past (plain_one plain) there order' n low' in
               (join n).join opened m nothing s.outcomes (o ∷ []) s.first s.stores (next ∷ []) (old.0 n (numbered_before n low')) (subst (λ (f : F). EachMoment (Reopens n) world opened m past (o ∷ []) f (next ∷ [])) (sym s.ends) moments)),
-          tells_more opened nothing none_begun steps s.outcomes x o old.1 (one.tells opened m past (plain_one plain) there order'),
+          tells_more May opened nothing none_begun steps s.outcomes x o old.1 (one.tells opened m past (plain_one plain) there order'),
         )
 
     right : IsPlainUse (steps ++ x ∷ []) → InOrder opened (journal_of (told ++ t ∷ [])) → EachAnswers opened m (journal_of told) (x ∷ []) (t ∷ []) × Holds opened m (state_of (without_low_reads opened (journal_of (told ++ t ∷ []))) new)
@@ -132,7 +134,7 @@ module _ {F : Type 0} (world : F → World) (join : (n : ℕ) → MomentsJoin Re
         let old = all_of (λ xs ts (us : List Told). AnswersSo opened m xs ts) steps told told many_told many_told s.answers (plain_before plain) (kept.front opened (journal_of told) (journal_of (t ∷ [])) order') in
         answers_more opened m [] steps told x t many_told old (right plain order).0
 
-    pub one_more : SoFar world m was opened counter (steps ++ x ∷ []) (told ++ t ∷ []) next new
+    pub one_more : SoFar May world m was opened counter (steps ++ x ∷ []) (told ++ t ∷ []) next new
     one_more = record {
       found = s.found;
       starts = s.starts;
@@ -160,10 +162,10 @@ module _ {F : Type 0} (world : F → World) (join : (n : ℕ) → MomentsJoin Re
 
   -- ---- before the first step
 
-  begun_along : (strategies : Strategies) (m : Map) (was first is : F) (old now : Core) (opened : List Entry) (points : List (Point F)) → RanAlong world strategies [] [] (here world first old) points → (last_of (here world first old) points).store ≡ is → Closes (last_of (here world first old) points).stage.core now
-      → (IsStored (world first) (versions_left old) (written_of old) → EachReady world first (map (λ p. p.store) points)) → ((past : Past) → HasMoments world opened m past [] [] (here world first old) points) → ((past : Past) → GoesOn world opened m past [] [] (here world first old) points is now)
+  begun_along : (strategies : Strategies) (m : Map) (was first is : F) (old now : Core) (opened : List Entry) (points : List (Point F)) → RanAlong world strategies [] [] (here May world first old) points → (last_of (here May world first old) points).store ≡ is → Closes (last_of (here May world first old) points).stage.core now
+      → (IsStored (world first) (versions_left old) (written_of old) → EachReady world first (map (λ p. p.store) points)) → ((past : Past) → HasMoments world opened m past [] [] (here May world first old) points) → ((past : Past) → GoesOn world opened m past [] [] (here May world first old) points is now)
       → RunIsRight strategies [] [] old now → StaysStored (world first) (world is) old now → StandsAfter world opened m nothing first old → IsOpened opened m (state_of [] old) → IsStored (world first) (versions_left old) (written_of old)
-      → above opened ≤ 2 ^ 63 → above opened ≤ old.seqno → ((levels : Levels) → Finds (world was).gives levels → opened ≡ held (placed_of levels)) → ((tables : Levels) → Finds (world was).gives tables → OpeningLeaves (world was) (world first) tables) → SoFar world m was opened old.seqno [] [] is now
+      → above opened ≤ 2 ^ 63 → above opened ≤ old.seqno → ((levels : Levels) → Finds (world was).gives levels → opened ≡ held (placed_of levels)) → ((tables : Levels) → Finds (world was).gives tables → OpeningLeaves (world was) (world first) tables) → SoFar May world m was opened old.seqno [] [] is now
   begun_along strategies m was first is old now opened (p ∷ points) ran ends closes ready moments goes_on right stays there opens stored low counted found opening = absurd ran
   begun_along strategies m was first is old now opened [] ran ends closes ready moments goes_on right stays there opens stored low counted found opening = record {
     found = found;
@@ -183,21 +185,21 @@ module _ {F : Type 0} (world : F → World) (join : (n : ℕ) → MomentsJoin Re
     numbered = record { before = low; written = tt };
     ready = ready stored;
     stored = stays stored;
-    along = none_of (λ xs os ss. LivesAlong world opened m xs os first ss) (λ plain order. ((λ n numbered. (moments nothing 0 plain there order).0 n numbered), tt));
+    along = none_of (λ xs os ss. LivesAlong May world opened m xs os first ss) (λ plain order. ((λ n numbered. (moments nothing 0 plain there order).0 n numbered), tt));
     answers = none_of (λ xs ts (us : List Told). AnswersSo opened m xs ts) (λ plain order. tt);
     stands = λ plain order. goes_on nothing plain there order;
     holds = λ plain order. (right.goes_on opened m [] plain (kept.opened opened m (state_of [] old) opens) order).1;
   }
 
-  pub begun : (strategies : Strategies) (m : Map) (was first is : F) (old now : Core) (opened : List Entry) → RunHasMoments world strategies [] [] (here world first old) is now → RunIsRight strategies [] [] old now → StaysStored (world first) (world is) old now
-      → IsOpened opened m (state_of [] old) → old.lost ≡ None → IsStored (world first) (versions_left old) (written_of old) → above opened ≤ 2 ^ 63 → above opened ≤ old.seqno → ((levels : Levels) → Finds (world was).gives levels → opened ≡ held (placed_of levels)) → ((tables : Levels) → Finds (world was).gives tables → OpeningLeaves (world was) (world first) tables) → SoFar world m was opened old.seqno [] [] is now
+  pub begun : (strategies : Strategies) (m : Map) (was first is : F) (old now : Core) (opened : List Entry) → RunHasMoments world strategies [] [] (here May world first old) is now → RunIsRight strategies [] [] old now → StaysStored (world first) (world is) old now
+      → IsOpened opened m (state_of [] old) → old.lost ≡ None → IsStored (world first) (versions_left old) (written_of old) → above opened ≤ 2 ^ 63 → above opened ≤ old.seqno → ((levels : Levels) → Finds (world was).gives levels → opened ≡ held (placed_of levels)) → ((tables : Levels) → Finds (world was).gives tables → OpeningLeaves (world was) (world first) tables) → SoFar May world m was opened old.seqno [] [] is now
   begun strategies m was first is old now opened run right stays opens certain stored low counted found opening =
       begun_along strategies m was first is old now opened run.points run.ran run.ends run.closes run.ready (run.moments opened m) (run.goes_on opened m) right stays (run.begins opened m opens certain stored) opens stored low counted found opening
 
   -- ---- no step at all
 
-  none_along : (strategies : Strategies) (m : Map) (was : F) (opened : List Entry) (counter : ℕ) (steps : List Step) (told : List Told) (is : F) (now : Core) (s : SoFar world m was opened counter steps told is now) (next : F) (new : Core) (points : List (Point F)) → RanAlong world strategies [] [] (here world is now) points → (last_of (here world is now) points).store ≡ next → Closes (last_of (here world is now) points).stage.core new
-      → ((past : Past) → GoesOn world opened m past [] [] (here world is now) points next new) → RunIsRight strategies [] [] now new → StaysStored (world is) (world next) now new → SoFar world m was opened counter steps told next new
+  none_along : (strategies : Strategies) (m : Map) (was : F) (opened : List Entry) (counter : ℕ) (steps : List Step) (told : List Told) (is : F) (now : Core) (s : SoFar May world m was opened counter steps told is now) (next : F) (new : Core) (points : List (Point F)) → RanAlong world strategies [] [] (here May world is now) points → (last_of (here May world is now) points).store ≡ next → Closes (last_of (here May world is now) points).stage.core new
+      → ((past : Past) → GoesOn world opened m past [] [] (here May world is now) points next new) → RunIsRight strategies [] [] now new → StaysStored (world is) (world next) now new → SoFar May world m was opened counter steps told next new
   none_along strategies m was opened counter steps told is now s next new (p ∷ points) ran ends closes goes_on right stays = absurd ran
   none_along strategies m was opened counter steps told is now s next new [] ran ends closes goes_on right stays = record {
     found = s.found;
@@ -225,5 +227,5 @@ module _ {F : Type 0} (world : F → World) (join : (n : ℕ) → MomentsJoin Re
         subst (λ es. Holds opened m (state_of (without_low_reads opened es) new)) e (right.goes_on opened m (journal_of told) (λ i. i) (s.holds plain order) (subst (InOrder opened) (sym e) order)).1;
   }
 
-  pub none_more : (strategies : Strategies) (m : Map) (was : F) (opened : List Entry) (counter : ℕ) (steps : List Step) (told : List Told) (is : F) (now : Core) → SoFar world m was opened counter steps told is now → (next : F) (new : Core) → RunHasMoments world strategies [] [] (here world is now) next new → RunIsRight strategies [] [] now new → StaysStored (world is) (world next) now new → SoFar world m was opened counter steps told next new
+  pub none_more : (strategies : Strategies) (m : Map) (was : F) (opened : List Entry) (counter : ℕ) (steps : List Step) (told : List Told) (is : F) (now : Core) → SoFar May world m was opened counter steps told is now → (next : F) (new : Core) → RunHasMoments world strategies [] [] (here May world is now) next new → RunIsRight strategies [] [] now new → StaysStored (world is) (world next) now new → SoFar May world m was opened counter steps told next new
   none_more strategies m was opened counter steps told is now s next new run right stays = none_along strategies m was opened counter steps told is now s next new run.points run.ran run.ends run.closes (run.goes_on opened m) right stays

@@ -9,3 +9,4 @@ pub mod Orders
 pub mod Carried
 pub mod Beginning
 pub mod Again
+pub mod Nothing

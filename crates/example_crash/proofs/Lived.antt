@@ -1,5 +1,5 @@
 -- What was taken step by step is a life, as a run of all of it is one.
-use Rattle.std.proofs.Common.{◌≡◌, ℕ, zero, suc, ◌+◌, ◌^◌, arith, List, [], ◌∷◌, ◌++◌, map, take, length, refl, sym, ap, ◌∙◌, subst}
+use Rattle.std.proofs.Common.{◌≡◌, ℕ, zero, suc, ◌+◌, ◌^◌, max, arith, List, [], ◌∷◌, ◌++◌, map, take, length, refl, sym, ap, ◌∙◌, subst}
 use Rattle.std.specs.List.{AllByRecursion}
 use Rattle.lsm_runs.specs.Each.{each_left}
 use Rattle.lsm_runs.specs.Entries.{Entry, above}
@@ -13,10 +13,11 @@ use Rattle.lsm_runs.specs.Rising.{At, RisesFrom, RisingIsInOrder, OrderWithoutRe
 use Rattle.lsm_runs.specs.declared.steps.Step.{Step}
 use Rattle.lsm_runs.specs.declared.steps.Reply.{Reply}
 use Rattle.lsm_runs.specs.Drawing.{asks_of}
+use Rattle.lsm_runs.specs.Dropping.{Drops}
 use Rattle.lsm_runs.specs.Lives.{StepsAreLives, Rise, LivesInOrder, told_of}
 use Rattle.lsm_runs.specs.Runs.{IsPlainUse, journal_of, EachAnswers}
 use Rattle.lsm_runs.specs.Told.{Told}
-use Rattle.lsm_runs.proofs.RunLives.{front_in_order, length_front, front_ready, last_ready}
+use Rattle.lsm_runs.proofs.RunLives.{front_in_order, journal_after, map_take, length_front, front_ready, last_ready}
 use Rattle.lsm_runs.proofs.Uses.{drawings}
 use Rattle.example_crash.specs.SoFar.{SoFar}
 use Rattle.example_crash.proofs.Growing.{all_of, length_map}
@@ -37,11 +38,11 @@ journal_same : (outcomes : List (out.Told Reply)) → out.journal_of outcomes �
 journal_same [] = refl
 journal_same (o ∷ outcomes) = ap (λ es. o.entries ++ es) (journal_same outcomes)
 
-module _ {F : Type 0} (world : F → World) (m : Map) (was : F) (opened : List Entry) (counter : ℕ) (steps : List Step) (told : List Told) (is : F) (now : Core) (s : SoFar world m was opened counter steps told is now) where
+module _ {F : Type 0} (May : Drops) (world : F → World) (m : Map) (was : F) (opened : List Entry) (counter : ℕ) (steps : List Step) (told : List Told) (is : F) (now : Core) (s : SoFar May world m was opened counter steps told is now) where
   numbered_front : (many : ℕ) → AreNumbered (2 ^ 63) opened (after_all opened nothing (take many s.outcomes)).journal
   numbered_front many = record { before = s.numbered.before; written = all_front opened IsSmall many s.outcomes nothing s.numbered.written }
 
-  pub are_lives : StepsAreLives world opened m steps s.outcomes s.first s.stores
+  pub are_lives : StepsAreLives May world opened m steps s.outcomes s.first s.stores
   are_lives many answered end plain order ends all =
       let along = s.along many plain order in
       let few = length_front many s.stores in
@@ -63,15 +64,28 @@ module _ {F : Type 0} (world : F → World) (m : Map) (was : F) (opened : List E
         answered = refl;
       }
 
-  abbrev pub lived : RisingIsInOrder Reply → OrderWithoutReads → LivesInOrder world m steps told was is
-  lived rising without = record {
+  -- where the first so many are in order, each answers what the replay does
+  pub front_answers : OrderWithoutReads → (many : ℕ) → IsPlainUse (take many steps) → InOrder opened (after_all opened nothing (take many s.outcomes)).journal → EachAnswers opened m [] (take many steps) (take many told)
+  front_answers without many plain order =
+      let front : List (out.Told Reply) = take many s.outcomes in
+      let whole : InOrder opened (out.journal_of front) = (without.order opened (out.journal_of front)).1 (subst (InOrder opened) (journal_after opened front nothing) order) in
+      let same : out.journal_of front ≡ journal_of (take many told) = journal_same front ∙ ap (λ ts. journal_of ts) (map_take told_of many s.outcomes ∙ ap (λ ts. take many ts) s.replies) in
+      s.answers many plain (subst (InOrder opened) same whole)
+
+  abbrev pub lived : RisingIsInOrder Reply → OrderWithoutReads → (from : ℕ) → counter ≡ max from (above opened) → LivesInOrder May world from m steps told was is
+  lived rising without from starts = record {
     opened = opened;
+    found = s.found;
     outcomes = s.outcomes;
     replies = s.replies;
     life = record { first = s.first; stores = s.stores; ends = s.ends; opening = s.opening; lives = are_lives };
     counter = counter;
-    above_found = s.above_found;
+    starts = starts;
+    counters = s.counters;
+    uses = s.uses;
     in_order = front_in_order opened rising without steps s.outcomes counter s.counters s.above_found s.uses;
+    answers = front_answers without;
+    leaves = λ many plain order. (s.along many plain order).0;
   }
 
   -- where numbers rise, each answers what the replay does

@@ -23,7 +23,9 @@ use Rattle.lsm_runs.specs.declared.steps.Step.{Step}
 use Rattle.lsm_runs.specs.declared.steps.Reply.{Reply}
 use Rattle.lsm_runs.specs.Lives.{AreSteps, AnyNumberOfLives, LivedSo, LivesInOrder, Rise, told_of}
 use Rattle.lsm_runs.specs.Moments.{Reopens}
-use Rattle.lsm_runs.specs.Notes.{none_begun, EachTells}
+use Rattle.lsm_runs.specs.Dropping.{no_drops}
+use Rattle.lsm_runs.specs.Notes.{EachTells}
+use Rattle.lsm_runs.specs.OpenFlushes.{none_begun}
 use Rattle.lsm_runs.specs.Runs.{IsPlainUse}
 use Rattle.lsm_runs.specs.Told.{Told}
 use Rattle.example_crash.specs.Survival.{IsUsual, IsWant, IsLeftOf}
@@ -61,16 +63,16 @@ begins_itself image left begins = record {
 
 -- ---- the first life
 
-module _ (once : FoundOnce) (many : AnyNumberOfLives world_of) (was is : MemStore) (end : End MemStore) (begins : Begins none (world_of was)) (over : EndsIn world_of (world_of is) (world_of is) end) (steps : List Step) (told : List Told)
-    (usual : AllByRecursion IsUsual steps) (lived : (m : Map) → StandsForMap (world_of was).gives m → LivesInOrder world_of m steps told was is) where
+module _ (once : FoundOnce) (many : AnyNumberOfLives no_drops world_of) (from : ℕ) (was is : MemStore) (end : End MemStore) (begins : Begins none (world_of was)) (over : EndsIn world_of (world_of is) (world_of is) end) (steps : List Step) (told : List Told)
+    (usual : AllByRecursion IsUsual steps) (lived : (m : Map) → StandsForMap (world_of was).gives m → LivesInOrder no_drops world_of from m steps told was is) where
   -- all of it
-  abbrev size : {m : Map} → LivesInOrder world_of m steps told was is → ℕ
+  abbrev size : {m : Map} → LivesInOrder no_drops world_of from m steps told was is → ℕ
   size l = length l.life.stores + (length l.outcomes + length steps)
 
-  all_steps : {m : Map} (l : LivesInOrder world_of m steps told was is) → take (size l) steps ≡ steps
+  all_steps : {m : Map} (l : LivesInOrder no_drops world_of from m steps told was is) → take (size l) steps ≡ steps
   all_steps l = whole (size l) steps (omega arith)
 
-  ended : {m : Map} (l : LivesInOrder world_of m steps told was is)
+  ended : {m : Map} (l : LivesInOrder no_drops world_of from m steps told was is)
       → EndsIn world_of (world_of (last_of l.life.first (take (size l) (take (size l) l.life.stores)))) (world_of (last_of l.life.first (take (size l) l.life.stores))) end
   ended l =
       let stores : take (size l) l.life.stores ≡ l.life.stores = whole (size l) l.life.stores (omega arith) in
@@ -79,12 +81,12 @@ module _ (once : FoundOnce) (many : AnyNumberOfLives world_of) (was is : MemStor
       subst (λ (s : MemStore). EndsIn world_of (world_of s) (world_of (last_of l.life.first (take (size l) l.life.stores))) end) (sym again)
       (subst (λ (s : MemStore). EndsIn world_of (world_of is) (world_of s) end) (sym last) over)
 
-  one : {m : Map} (l : LivesInOrder world_of m steps told was is) → LivedSo world_of l.opened m (take (size l) steps) (take (size l) l.outcomes) (size l) end
+  one : {m : Map} (l : LivesInOrder no_drops world_of from m steps told was is) → LivedSo no_drops world_of l.opened m (take (size l) steps) (take (size l) l.outcomes) (size l) end
   one l =
       let rise : Rise l.opened l.counter steps = record { numbers = usual_rises steps usual (above l.opened) (At l.counter); weak = usual_weak l.opened [] steps usual } in
       l.life.lives (size l) (size l) end (subst IsPlainUse (sym (all_steps l)) (usual_plain steps usual)) (l.in_order (size l) (subst (Rise l.opened l.counter) (sym (all_steps l)) rise)) (ended l) (λ kill. omega arith)
 
-  abbrev lives : LifeAfterLife Reply AreSteps IsReady (Reopens (2 ^ 63)) world_of (Crashed none) (end ∷ [])
+  abbrev lives : LifeAfterLife Reply (AreSteps no_drops) IsReady (Reopens (2 ^ 63)) world_of (Crashed none) (end ∷ [])
   lives = (record { store = was; takes = begins; life = λ m ready shows each. Running (one (lived m shows.stands)).life }, tt)
 
   -- the map that an image shows which may be left
@@ -105,12 +107,12 @@ module _ (once : FoundOnce) (many : AnyNumberOfLives world_of) (was is : MemStor
           opened = life.opened;
           outcomes = life.told;
           replies = ap (λ ts. map told_of ts) so.told ∙ all_told l;
-          tells = subst (λ xs. EachTells life.opened nothing none_begun xs life.told) (so.took ∙ all_steps l) life.known.tells;
+          tells = subst (λ xs. EachTells no_drops life.opened nothing none_begun xs life.told) (so.took ∙ all_steps l) life.known.tells;
           holds = subst (λ s. IsBeginning s (after_all life.opened nothing life.told).journal (after_all life.opened nothing life.told).notes (covered (after_all life.opened nothing life.told).notes) shown.0) from_empty held_all;
         },
       )
     where
-      all_told : {m : Map} (l : LivesInOrder world_of m steps told was is) → map told_of (take (size l) l.outcomes) ≡ told
+      all_told : {m : Map} (l : LivesInOrder no_drops world_of from m steps told was is) → map told_of (take (size l) l.outcomes) ≡ told
       all_told l = ap (λ ts. map told_of ts) (whole (size l) l.outcomes (omega arith)) ∙ l.replies
 
   -- opening takes what the end of the process left
@@ -133,8 +135,8 @@ given_now store = gives_now store
 
 -- ---- what a crash left of a first life
 
-pub crash_leaves : FoundOnce → AnyNumberOfLives world_of → (was is left : MemStore) (image : Image) → IsImage (world_of is).may image → Begins image (world_of left) → Begins none (world_of was) → (steps : List Step) (told : List Told) → AllByRecursion IsUsual steps → ((m : Map) → StandsForMap (world_of was).gives m → LivesInOrder world_of m steps told was is)
+pub crash_leaves : FoundOnce → AnyNumberOfLives no_drops world_of → (from : ℕ) (was is left : MemStore) (image : Image) → IsImage (world_of is).may image → Begins image (world_of left) → Begins none (world_of was) → (steps : List Step) (told : List Told) → AllByRecursion IsUsual steps → ((m : Map) → StandsForMap (world_of was).gives m → LivesInOrder no_drops world_of from m steps told was is)
     → (m : Map) × Reopens (2 ^ 63) (world_of left).gives m × IsLeftOf steps told m
-crash_leaves once many was is left image may begins new steps told usual lived =
+crash_leaves once many from was is left image may begins new steps told usual lived =
     let gives = (world_of left).gives in
-    survives once many was is (Crashed gives) new (crashed_now is gives (gives_left is left image may begins)) steps told usual lived gives refl
+    survives once many from was is (Crashed gives) new (crashed_now is gives (gives_left is left image may begins)) steps told usual lived gives refl

@@ -23,12 +23,16 @@ use Rattle.lsm_runs.specs.After.{AnswersAfter, RunIsRight}
 use Rattle.lsm_runs.specs.Chains.{Point, RanAlong}
 use Rattle.lsm_runs.specs.Compacting.{Strategies}
 use Rattle.lsm_runs.specs.Drawing.{asks_of}
+use Rattle.lsm_runs.specs.Adds.{Adds}
+use Rattle.lsm_runs.specs.Dropping.{Drops, AllowsDrops, may_drop}
 use Rattle.lsm_runs.specs.Files.{StaysStored}
 use Rattle.lsm_runs.specs.Moments.{outcome_of, outcomes_of, Reopens, StandsAfter, EachReady, HasMoments, GoesOn, TellsSo, RunHasMoments}
-use Rattle.lsm_runs.specs.Notes.{none_begun, Notes, EachTells}
+use Rattle.lsm_runs.specs.Notes.{Notes, EachTells}
+use Rattle.lsm_runs.specs.OpenFlushes.{BegunFlush, none_begun}
 use Rattle.lsm_runs.specs.Runs.{Takes, IsPlainUse}
 use Rattle.lsm_runs.specs.Slots.{Stage, at_first, Closes}
 use Rattle.lsm_runs.specs.Told.{Told}
+use Rattle.lsm_runs.proofs.Allowing.{adds_grow}
 use Rattle.example_crash.proofs.Growing.{length_more}
 
 -- what is written is numbered below 2^63
@@ -39,14 +43,22 @@ IsSmall x = OfWrite (λ e. e.key.seqno < 2 ^ 63) x
 abbrev pub outcome : Step → Told → Core → out.Told Reply
 outcome x t c = outcome_of x t (at_first c)
 
--- No job waits before the step: so no flush is registered, and what the step notes is the same whatever was begun.
-notes_any : (strategies : Strategies) (sealed : List ℕ) (begun : ℕ → List ℕ) (x : Step) (r : Reply) (events : List Event) (notes : List Noted) (old : Core) (new : Stage) → Takes strategies x r events (at_first old) new → Notes sealed none_begun x r notes → Notes sealed begun x r notes
+-- No job waits before the step: so no flush is registered, and what the step adds and notes is the same whatever was begun.
+adds_any : (May : Drops) (strategies : Strategies) (begun : ℕ → BegunFlush) (x : Step) (r : Reply) (events : List Event) (old : Core) (new : Stage) → Takes strategies x r events (at_first old) new → Adds May none_begun x r events → Adds May begun x r events
+adds_any May strategies begun (step.AtSlot slot job.RegisterTables) (reply.Registered a) events old new takes h = absurd (let z = takes.0.1 in cc z)
+adds_any May strategies begun (step.AtSlot slot job.RegisterTables) (reply.Refused e) events old new takes h = absurd (let z = takes.0.1 in cc z)
+adds_any May strategies begun (step.AtSlot slot job.RegisterTables) reply.NoJob events old new takes h = subst (AllByRecursion _) (sym takes.0.0.0) tt
+adds_any May strategies begun (step.AtSlot slot job.RegisterTables) r events old new takes h = absurd takes.0
+adds_any May strategies begun (step.AtSlot slot x) r events old new takes h = h
+adds_any May strategies begun x r events old new takes h = h
+
+notes_any : (strategies : Strategies) (sealed : List ℕ) (begun : ℕ → BegunFlush) (x : Step) (r : Reply) (events : List Event) (notes : List Noted) (old : Core) (new : Stage) → Takes strategies x r events (at_first old) new → Notes sealed none_begun x r notes → Notes sealed begun x r notes
 notes_any strategies sealed begun (step.AtSlot slot job.RegisterTables) (reply.Registered a) events notes old new takes h = absurd (let z = takes.0.1 in cc z)
 notes_any strategies sealed begun (step.AtSlot slot job.RegisterTables) r events notes old new takes h = h
 notes_any strategies sealed begun (step.AtSlot slot x) r events notes old new takes h = h
 notes_any strategies sealed begun x r events notes old new takes h = h
 
-module _ {F : Type 0} (world : F → World) where
+module _ {F : Type 0} (May : Drops) (world : F → World) where
   -- a tree beside its store, where no job waits
   abbrev pub here : F → Core → Point F
   here store c = record { store = store; stage = at_first c }
@@ -61,14 +73,14 @@ module _ {F : Type 0} (world : F → World) where
     pub ready : IsStored (world was) (versions_left old) (written_of old) → EachReady world was (is ∷ [])
     pub moments : (opened : List Entry) (start : Map) (past : Past) → IsPlainUse (x ∷ []) → StandsAfter world opened start past was old → InOrder opened (after opened past (outcome x t old)).journal → (n : ℕ) → AreNumbered n opened (after opened past (outcome x t old)).journal
         → EachMoment (Reopens n) world opened start past (outcome x t old ∷ []) was (is ∷ [])
-    pub tells : (opened : List Entry) (start : Map) (past : Past) → IsPlainUse (x ∷ []) → StandsAfter world opened start past was old → InOrder opened (after opened past (outcome x t old)).journal → (begun : ℕ → List ℕ) → EachTells opened past begun (x ∷ []) (outcome x t old ∷ [])
+    pub tells : (opened : List Entry) (start : Map) (past : Past) → IsPlainUse (x ∷ []) → StandsAfter world opened start past was old → InOrder opened (after opened past (outcome x t old)).journal → (begun : ℕ → BegunFlush) → EachTells May opened past begun (x ∷ []) (outcome x t old ∷ [])
     pub stands : (opened : List Entry) (start : Map) (past : Past) → IsPlainUse (x ∷ []) → StandsAfter world opened start past was old → InOrder opened (after opened past (outcome x t old)).journal → StandsAfter world opened start (after opened past (outcome x t old)) is new
     pub goes_on : (opened : List Entry) (start : Map) (journal : List Event) → AnswersAfter opened start journal (x ∷ []) (t ∷ []) old new
 
-  module _ (strategies : Strategies) (x : Step) (t : Told) (was is : F) (old new : Core) where
+  module _ (strategies : Strategies) (allows : AllowsDrops May strategies) (x : Step) (t : Told) (was is : F) (old new : Core) where
     took_along : (points : List (Point F)) → RanAlong world strategies (x ∷ []) (t ∷ []) (here was old) points → (last_of (here was old) points).store ≡ is → Closes (last_of (here was old) points).stage.core new → AllByRecursion IsSmall t.entries → StaysStored (world was) (world is) old new
         → EachUses (asks_of x ∷ []) (outcomes_of (x ∷ []) (t ∷ []) (here was old) points) old.seqno (map (λ p. p.stage.core.seqno) points) → (IsStored (world was) (versions_left old) (written_of old) → EachReady world was (map (λ p. p.store) points))
-        → ((opened : List Entry) (start : Map) (past : Past) → HasMoments world opened start past (x ∷ []) (t ∷ []) (here was old) points) → ((opened : List Entry) (start : Map) (past : Past) → TellsSo world opened start past (x ∷ []) (t ∷ []) (here was old) points)
+        → ((opened : List Entry) (start : Map) (past : Past) → HasMoments world opened start past (x ∷ []) (t ∷ []) (here was old) points) → ((opened : List Entry) (start : Map) (past : Past) → TellsSo (may_drop strategies) world opened start past (x ∷ []) (t ∷ []) (here was old) points)
         → ((opened : List Entry) (start : Map) (past : Past) → GoesOn world opened start past (x ∷ []) (t ∷ []) (here was old) points is new) → ((opened : List Entry) (start : Map) (journal : List Event) → AnswersAfter opened start journal (x ∷ []) (t ∷ []) old new) → TookOne x t was is old new
     took_along [] ran ends closes small stored uses ready moments tells stands goes_on = absurd ran
     took_along (p ∷ (q ∷ points)) ran ends closes small stored uses ready moments tells stands goes_on = absurd ran.2
@@ -80,20 +92,22 @@ module _ {F : Type 0} (world : F → World) where
       stored = stored;
       ready = λ still. subst (λ (f : F). EachReady world was (f ∷ [])) ends (ready still);
       moments = λ opened start past plain there order n numbered. subst (λ (f : F). EachMoment (Reopens n) world opened start past (outcome x t old ∷ []) was (f ∷ [])) ends ((moments opened start past 1 plain there order).0 n numbered);
-      tells = λ opened start past plain there order begun. let h = tells opened start past 1 plain there order in (h.0, notes_any strategies _ begun x t.reply t.entries _ old p.stage ran.0 h.1, tt);
+      tells = λ opened start past plain there order begun.
+          let h = tells opened start past 1 plain there order in
+          (adds_any May strategies begun x t.reply t.entries old p.stage ran.0 (adds_grow (may_drop strategies) May allows none_begun x t.reply t.entries h.0), notes_any strategies _ begun x t.reply t.entries _ old p.stage ran.0 h.1, tt);
       stands = λ opened start past plain there order. stands opened start past plain there order;
       goes_on = goes_on;
     }
 
-  pub took_one : (strategies : Strategies) (x : Step) (t : Told) (was is : F) (old new : Core) → RunHasMoments world strategies (x ∷ []) (t ∷ []) (here was old) is new → RunIsRight strategies (x ∷ []) (t ∷ []) old new → StaysStored (world was) (world is) old new → TookOne x t was is old new
-  took_one strategies x t was is old new run right stored =
-      took_along strategies x t was is old new run.points run.ran run.ends run.closes (each_left IsSmall t.entries [] run.small) stored run.uses run.ready run.moments run.tells run.goes_on right.goes_on
+  pub took_one : (strategies : Strategies) → AllowsDrops May strategies → (x : Step) (t : Told) (was is : F) (old new : Core) → RunHasMoments world strategies (x ∷ []) (t ∷ []) (here was old) is new → RunIsRight strategies (x ∷ []) (t ∷ []) old new → StaysStored (world was) (world is) old new → TookOne x t was is old new
+  took_one strategies allows x t was is old new run right stored =
+      took_along strategies allows x t was is old new run.points run.ran run.ends run.closes (each_left IsSmall t.entries [] run.small) stored run.uses run.ready run.moments run.tells run.goes_on right.goes_on
 
   -- the same of a run of a list that has just this step
-  pub took_singly : (strategies : Strategies) (steps : List Step) (told : List Told) (x : Step) (t : Told) (was is : F) (old new : Core) → steps ≡ x ∷ [] → told ≡ t ∷ []
+  pub took_singly : (strategies : Strategies) → AllowsDrops May strategies → (steps : List Step) (told : List Told) (x : Step) (t : Told) (was is : F) (old new : Core) → steps ≡ x ∷ [] → told ≡ t ∷ []
       → RunHasMoments world strategies (take (length told) steps) told (here was old) is new → RunIsRight strategies (take (length told) steps) told old new → StaysStored (world was) (world is) old new → TookOne x t was is old new
-  took_singly strategies steps told x t was is old new e f run right stored =
-      took_one strategies x t was is old new
+  took_singly strategies allows steps told x t was is old new e f run right stored =
+      took_one strategies allows x t was is old new
       (subst (λ ts. RunHasMoments world strategies (take (length ts) (x ∷ [])) ts (here was old) is new) f (subst (λ xs. RunHasMoments world strategies (take (length told) xs) told (here was old) is new) e run))
       (subst (λ ts. RunIsRight strategies (take (length ts) (x ∷ [])) ts old new) f (subst (λ xs. RunIsRight strategies (take (length told) xs) told old new) e right)) stored
 

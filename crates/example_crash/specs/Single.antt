@@ -12,6 +12,7 @@ use Rattle.lsm_runs.specs.Ready.{IsReady}
 use Rattle.lsm_runs.specs.Core.{Seen}
 use Rattle.lsm_runs.specs.Rising.{At, RisesFrom, highest}
 use Rattle.lsm_runs.specs.declared.steps.Step.{Step}
+use Rattle.lsm_runs.specs.Dropping.{Drops}
 use Rattle.lsm_runs.specs.Drawing.{drawing_of, keys_weak}
 use Rattle.lsm_runs.specs.Lives.{Rise, LivesInOrder}
 use Rattle.lsm_runs.specs.Moments.{Reopens}
@@ -39,33 +40,28 @@ pub record MayBeOpened (store : MemStore) (m : Map) : Type 0 where
   pub stands : StandsForMap (world_of store).gives m
 
 -- A store that stood for the map was opened, with its counter at a number at least, and these steps were taken on it, which had these outcomes.
-pub record HasLived (m : Map) (was : MemStore) (from : ℕ) (steps : List Step) (told : List Told) (is : MemStore) : Type 0 where
-  -- the entries that were found, and where the counter stood
-  pub opened : List Entry
-  pub found : (levels : Levels) → Finds (world_of was).gives levels → opened ≡ held (placed_of levels)
-  pub counter : ℕ
-  pub starts : counter ≡ max from (above opened)
+pub record HasLived (May : Drops) (m : Map) (was : MemStore) (from : ℕ) (steps : List Step) (told : List Told) (is : MemStore) : Type 0 where
   -- it is a life, as one run of all these steps is one: so a crash at any moment, also in a step, leaves a beginning
-  pub lives : LivesInOrder world_of m steps told was is
+  pub lives : LivesInOrder May world_of from m steps told was is
   -- where they keep the order, each read answers the replay of the calls before it, and whatever a crash leaves now is opened again as a
   -- beginning of the calls, with each flush that was installed and each clear that was answered
-  pub reads : KeepsOrder opened counter steps → EachAnswers opened m [] steps told
-  pub leaves : KeepsOrder opened counter steps → (image : Image) → IsImage (may_of is.files) image → (left : Map) × Reopens (2 ^ 63) image left × IsLeftFrom m steps told left
+  pub reads : KeepsOrder lives.opened lives.counter steps → EachAnswers lives.opened m [] steps told
+  pub leaves : KeepsOrder lives.opened lives.counter steps → (image : Image) → IsImage (may_of is.files) image → (left : Map) × Reopens (2 ^ 63) image left × IsLeftFrom May m steps told left
   -- of which all numbers are below the one at which the counter stands at most
-  pub below : KeepsOrder opened counter steps → (image : Image) → IsImage (may_of is.files) image → (levels : Levels) → Finds image levels → above (held (placed_of levels)) ≤ highest (At counter) (map drawing_of steps)
+  pub below : KeepsOrder lives.opened lives.counter steps → (image : Image) → IsImage (may_of is.files) image → (levels : Levels) → Finds image levels → above (held (placed_of levels)) ≤ highest (At lives.counter) (map drawing_of steps)
   -- and where the process ends now, the next one may open the store as it is
   pub ready : IsReady (world_of is)
 
 -- a store that may be opened stands for what these steps leave
-pub record ComesAfter (start : Map) (steps : List Step) (told : List Told) (store : MemStore) : Type 0 where
+pub record ComesAfter (May : Drops) (start : Map) (steps : List Step) (told : List Told) (store : MemStore) : Type 0 where
   pub left : Map
   pub opens : MayBeOpened store left
-  pub kept : IsLeftFrom start steps told left
+  pub kept : IsLeftFrom May start steps told left
 
 -- A tree has taken these steps one by one on such a store, each by a run of its own: so far it has lived, and may take more.
-pub record HasTaken (m : Map) (was : MemStore) (from : ℕ) (steps : List Step) (told : List Told) (tree : Seen MemStore) : Type 0 where
-  pub lived : HasLived m was from steps told tree.store
+pub record HasTaken (May : Drops) (m : Map) (was : MemStore) (from : ℕ) (steps : List Step) (told : List Told) (tree : Seen MemStore) : Type 0 where
+  pub lived : HasLived May m was from steps told tree.store
   pub opened : List Entry
   pub counter : ℕ
   pub starts : counter ≡ max from (above opened)
-  pub so_far : SoFar world_of m was opened counter steps told tree.store tree.core
+  pub so_far : SoFar May world_of m was opened counter steps told tree.store tree.core

@@ -22,17 +22,19 @@ use Rattle.lsm_runs.specs.declared.steps.Reply.{Reply}
 use Rattle.lsm_runs.specs.Drawing.{asks_of}
 use Rattle.lsm_runs.specs.Lives.{told_of}
 use Rattle.lsm_runs.specs.Moments.{Reopens, StandsAfter, EachReady}
-use Rattle.lsm_runs.specs.Notes.{none_begun, EachTells}
+use Rattle.lsm_runs.specs.Dropping.{Drops}
+use Rattle.lsm_runs.specs.Notes.{EachTells}
+use Rattle.lsm_runs.specs.OpenFlushes.{none_begun}
 use Rattle.lsm_runs.specs.Runs.{IsPlainUse, EachAnswers, journal_of, without_low_reads}
 use Rattle.lsm_runs.specs.Told.{Told}
 
 -- where these steps are in plain use and in order: at each store of the chain, and inside each step, a crash leaves a beginning of the calls so
 -- far, which holds what they covered; and what each adds and notes follows from its kind and its reply
-abbrev pub LivesAlong : {F : Type 0} → (F → World) → (opened : List Entry) (start : Map) → List Step → List (out.Told Reply) → F → List F → Type 0
-LivesAlong world opened start steps outcomes first stores =
+abbrev pub LivesAlong : {F : Type 0} → Drops → (F → World) → (opened : List Entry) (start : Map) → List Step → List (out.Told Reply) → F → List F → Type 0
+LivesAlong May world opened start steps outcomes first stores =
     let all = after_all opened nothing outcomes in
     IsPlainUse steps → InOrder opened all.journal
-    → ((n : ℕ) → AreNumbered n opened all.journal → EachMoment (Reopens n) world opened start nothing outcomes first stores) × EachTells opened nothing none_begun steps outcomes
+    → ((n : ℕ) → AreNumbered n opened all.journal → EachMoment (Reopens n) world opened start nothing outcomes first stores) × EachTells May opened nothing none_begun steps outcomes
 
 -- and each answers what the replay does
 abbrev pub AnswersSo : (opened : List Entry) (start : Map) → List Step → List Told → Type 0
@@ -40,7 +42,7 @@ AnswersSo opened start steps told = IsPlainUse steps → InOrder opened (journal
 
 -- A tree was opened on a store that stands for the map, with these entries, where its counter stood here, and took these steps one by one, which
 -- had these outcomes.
-pub record SoFar {F : Type 0} (world : F → World) (m : Map) (was : F) (opened : List Entry) (counter : ℕ) (steps : List Step) (told : List Told) (is : F) (now : Core) : Type 0 where
+pub record SoFar {F : Type 0} (May : Drops) (world : F → World) (m : Map) (was : F) (opened : List Entry) (counter : ℕ) (steps : List Step) (told : List Told) (is : F) (now : Core) : Type 0 where
   -- these were found, and show the map; the counter stood above them; and the store after opening
   pub found : (levels : Levels) → Finds (world was).gives levels → opened ≡ held (placed_of levels)
   pub starts : (k : Bytes) → get m k ≡ view_at k (above opened) (opened ∷ [])
@@ -62,7 +64,7 @@ pub record SoFar {F : Type 0} (world : F → World) (m : Map) (was : F) (opened 
   pub ready : EachReady world first stores
   pub stored : IsStored (world is) (versions_left now) (written_of now)
   -- of the first so many steps, whatever comes later
-  pub along : (many : ℕ) → LivesAlong world opened m (take many steps) (take many outcomes) first (take many stores)
+  pub along : (many : ℕ) → LivesAlong May world opened m (take many steps) (take many outcomes) first (take many stores)
   pub answers : (many : ℕ) → AnswersSo opened m (take many steps) (take many told)
   -- so calls may go on
   pub stands : IsPlainUse steps → InOrder opened (after_all opened nothing outcomes).journal → StandsAfter world opened m (after_all opened nothing outcomes) is now

@@ -35,7 +35,7 @@ pub fn crash_by_hand(
     // Usual steps are as good, wherever the counters start.
     ensures usual { AllByRecursion IsUsual first.now → AllByRecursion IsUsual second.now → SurvivesOrWants first.now second.now result }
     // None just where what is picked can't be left.
-    ensures crashed { CrashesAsPicked picks.now store first.now result }
+    ensures crashed { CrashesAsPicked from picks.now store first.now result }
 {
     crashes_settle(&store);
     images_stand_once();

@@ -7,6 +7,7 @@ ghost use Rattle.lsm_runs.specs.Journal.{Map};
 ghost use Rattle.lsm_runs.specs.declared.steps.Step.{Step};
 ghost use Rattle.lsm_runs.specs.Told.{Told};
 ghost use Rattle.lsm_runs.specs.Compacting.{strategies_of};
+ghost use Rattle.lsm_runs.specs.Dropping.{Allowance, AllowsDrops, allowed};
 ghost use Rattle.example_crash.specs.Single.{KeepsOrder, MayBeOpened, HasLived, ComesAfter};
 ghost use Rattle.example_crash.specs.Joining.{SoFarBegins, SoFarGrows, SoFarLives, SoFarAnswers};
 
@@ -21,10 +22,10 @@ use lsm_tree::{CompactionStrategy, MemStore, Reply};
 /// beginning of the steps so far, which holds all that the answered ones covered; and each read answers what the replay of
 /// the steps before it does.
 pub fn single_steps_join(store: &MemStore, strategies: &[Box<dyn CompactionStrategy>])
-    ensures begins { SoFarBegins world_of (strategies_of (λ b. may_choose b) (λ b. may_refuse b) strategies.now) }
-    ensures grows { SoFarGrows world_of (strategies_of (λ b. may_choose b) (λ b. may_refuse b) strategies.now) }
-    ensures lives { SoFarLives world_of }
-    ensures answers { SoFarAnswers world_of }
+    ensures begins { (may : Allowance) → SoFarBegins (allowed may) world_of (strategies_of (λ b. may_choose b) (λ b. may_refuse b) strategies.now) }
+    ensures grows { (may : Allowance) → AllowsDrops (allowed may) (strategies_of (λ b. may_choose b) (λ b. may_refuse b) strategies.now) → SoFarGrows (allowed may) world_of (strategies_of (λ b. may_choose b) (λ b. may_refuse b) strategies.now) }
+    ensures lives { (may : Allowance) → SoFarLives (allowed may) world_of }
+    ensures answers { (may : Allowance) → SoFarAnswers (allowed may) world_of }
 {
     reads_are_sound();
     moments_join(store, &TreeFiles, &Reply::Done);
@@ -36,8 +37,8 @@ pub fn single_steps_join(store: &MemStore, strategies: &[Box<dyn CompactionStrat
 /// left, be it by a crash or because its process ended, for a beginning of its calls.
 pub fn lives_follow(store: &MemStore)
     ensures new { (new : Memory) → Begins (λ _. None) (world_of new) → MayBeOpened new empty }
-    ensures ended { (m : Map) (was : Memory) (from : ℕ) (steps : List Step) (told : List Told) (is : Memory) → (h : HasLived m was from steps told is) → KeepsOrder h.opened h.counter steps → ComesAfter m steps told is }
-    ensures crashed { (m : Map) (was : Memory) (from : ℕ) (steps : List Step) (told : List Told) (is : Memory) → (h : HasLived m was from steps told is) → KeepsOrder h.opened h.counter steps → (image : Image) (left : Memory) → IsImage (may_of is.files) image → Begins image (world_of left) → ComesAfter m steps told left }
+    ensures ended { (may : Allowance) (m : Map) (was : Memory) (from : ℕ) (steps : List Step) (told : List Told) (is : Memory) → (h : HasLived (allowed may) m was from steps told is) → KeepsOrder h.lives.opened h.lives.counter steps → ComesAfter (allowed may) m steps told is }
+    ensures crashed { (may : Allowance) (m : Map) (was : Memory) (from : ℕ) (steps : List Step) (told : List Told) (is : Memory) → (h : HasLived (allowed may) m was from steps told is) → KeepsOrder h.lives.opened h.lives.counter steps → (image : Image) (left : Memory) → IsImage (may_of is.files) image → Begins image (world_of left) → ComesAfter (allowed may) m steps told left }
 {
     crashes_settle(store);
 }

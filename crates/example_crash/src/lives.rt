@@ -6,6 +6,7 @@ ghost use Rattle.lsm_runs.specs.Memory.{world_of};
 ghost use Rattle.lsm_runs.specs.World.{Begins};
 ghost use Rattle.lsm_runs.specs.Finding.{StandsForMap, RefusesFound};
 ghost use Rattle.lsm_runs.specs.Ready.{IsReady};
+ghost use Rattle.lsm_runs.specs.Dropping.{no_drops};
 ghost use Rattle.lsm_runs.specs.Lives.{LivesInOrder};
 ghost use Rattle.example_crash.specs.Survival.{IsUsual, IsWant, AnswersReplay, Survives, SurvivesOrWants, CrashesAsPicked};
 
@@ -22,7 +23,7 @@ pub struct TwoLives {
 
 /// Opens the tree of a store, takes steps on it, and gives the store back: what stands in memtables alone is gone.
 fn life(alloc: Global, store: MemStore, steps: &[Step]) -> Result<(MemStore, Taken), Error>
-    ensures lives { IsReady (world_of store) → (m : Map) → StandsForMap (world_of store).gives m → IfOk result (λ r. LivesInOrder world_of m (take (length r.1.outcomes.items) steps.now) r.1.outcomes.items store r.0) }
+    ensures lives { IsReady (world_of store) → (m : Map) → StandsForMap (world_of store).gives m → IfOk result (λ r. LivesInOrder no_drops world_of 0 m (take (length r.1.outcomes.items) steps.now) r.1.outcomes.items store r.0) }
     ensures refused { (m : Map) → StandsForMap (world_of store).gives m → IfErr result (RefusesFound (world_of store).gives) }
     ensures answers { IsReady (world_of store) → (m : Map) → StandsForMap (world_of store).gives m → AllByRecursion IsUsual steps.now → IfOk result (λ r. AnswersReplay m (take (length r.1.outcomes.items) steps.now) r.1.outcomes.items) }
 {
@@ -49,7 +50,7 @@ pub fn crash_between(
     requires new { Begins (λ _. None) (world_of store) }
     ensures survives { AllByRecursion IsUsual first.now → AllByRecursion IsUsual second.now → SurvivesOrWants first.now second.now result }
     // None just where a crash can't leave what is picked of the store after the first life.
-    ensures crashed { CrashesAsPicked picks.now store first.now result }
+    ensures crashed { CrashesAsPicked 0 picks.now store first.now result }
 {
     crashes_settle(&store);
     images_stand_once();

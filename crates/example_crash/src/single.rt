@@ -7,6 +7,8 @@ ghost use Rattle.lsm_runs.specs.Memory.{MemStore as Memory, world_of};
 ghost use Rattle.lsm_runs.specs.World.{Begins};
 ghost use Rattle.lsm_runs.specs.declared.steps.Step.{Step};
 ghost use Rattle.lsm_runs.specs.Told.{Told};
+ghost use Rattle.lsm_runs.specs.Compacting.{strategies_of};
+ghost use Rattle.lsm_runs.specs.Dropping.{Allowance, AllowsDrops, allowed};
 ghost use Rattle.example_crash.specs.Single.{MayBeOpened, HasLived, HasTaken};
 ghost use Rattle.example_crash.specs.Survival.{IsUsual, SurvivesOrWants, CrashesAsPicked};
 
@@ -29,7 +31,7 @@ pub fn open(
     strategies: &[Box<dyn CompactionStrategy>],
     from: SeqNo,
 ) -> Result<TreeState<MemStore>, Error>
-    ensures opens { (m : Map) → MayBeOpened store m → IfOk result (λ t. HasTaken m store from [] [] t) }
+    ensures opens { (may : Allowance) (m : Map) → MayBeOpened store m → IfOk result (λ t. HasTaken (allowed may) m store from [] [] t) }
     ensures refused { (m : Map) → MayBeOpened store m → IfErr result (RefusesFound (world_of store).gives) }
 {
     opening_finds(&store);
@@ -56,8 +58,8 @@ fn take_it(
     list: &[Step],
 ) -> Result<Outcome, AllocError>
     requires { length list.now ≡ 1 }
-    ensures ok { (m : Map) (was : Memory) (from : ℕ) (steps : List Step) (told : List Told) → HasTaken m was from steps told tree.old → IfOk result (λ o. HasTaken m was from (steps ++ list.now) (told ++ o ∷ []) tree.new) }
-    ensures err { (m : Map) (was : Memory) (from : ℕ) (steps : List Step) (told : List Told) → HasTaken m was from steps told tree.old → OnErr result (HasTaken m was from steps told tree.new) }
+    ensures ok { (may : Allowance) → AllowsDrops (allowed may) (strategies_of (λ b. may_choose b) (λ b. may_refuse b) strategies.now) → (m : Map) (was : Memory) (from : ℕ) (steps : List Step) (told : List Told) → HasTaken (allowed may) m was from steps told tree.old → IfOk result (λ o. HasTaken (allowed may) m was from (steps ++ list.now) (told ++ o ∷ []) tree.new) }
+    ensures err { (may : Allowance) (m : Map) (was : Memory) (from : ℕ) (steps : List Step) (told : List Told) → HasTaken (allowed may) m was from steps told tree.old → OnErr result (HasTaken (allowed may) m was from steps told tree.new) }
 {
     reads_are_sound();
     moments_join(tree.store(), &TreeFiles, &Reply::Done);
@@ -80,8 +82,8 @@ pub fn take_one(
     strategies: &[Box<dyn CompactionStrategy>],
     step: Step,
 ) -> Result<Outcome, AllocError>
-    ensures ok { (m : Map) (was : Memory) (from : ℕ) (steps : List Step) (told : List Told) → HasTaken m was from steps told tree.old → IfOk result (λ o. HasTaken m was from (steps ++ step ∷ []) (told ++ o ∷ []) tree.new) }
-    ensures err { (m : Map) (was : Memory) (from : ℕ) (steps : List Step) (told : List Told) → HasTaken m was from steps told tree.old → OnErr result (HasTaken m was from steps told tree.new) }
+    ensures ok { (may : Allowance) → AllowsDrops (allowed may) (strategies_of (λ b. may_choose b) (λ b. may_refuse b) strategies.now) → (m : Map) (was : Memory) (from : ℕ) (steps : List Step) (told : List Told) → HasTaken (allowed may) m was from steps told tree.old → IfOk result (λ o. HasTaken (allowed may) m was from (steps ++ step ∷ []) (told ++ o ∷ []) tree.new) }
+    ensures err { (may : Allowance) (m : Map) (was : Memory) (from : ℕ) (steps : List Step) (told : List Told) → HasTaken (allowed may) m was from steps told tree.old → OnErr result (HasTaken (allowed may) m was from steps told tree.new) }
 {
     take_it(alloc, tree, strategies, &[step])
 }
@@ -95,8 +97,8 @@ fn add_it(
     outcomes: &mut Vec<Outcome>,
 ) -> Result<(), AllocError>
     requires { length list.now ≡ 1 }
-    ensures ok { OnOk result ((o : Told) × (outcomes.new.items ≡ outcomes.old.items ++ o ∷ []) × ((m : Map) (was : Memory) (from : ℕ) (steps : List Step) (told : List Told) → HasTaken m was from steps told tree.old → HasTaken m was from (steps ++ list.now) (told ++ o ∷ []) tree.new)) }
-    ensures err { (m : Map) (was : Memory) (from : ℕ) (steps : List Step) (told : List Told) → HasTaken m was from steps told tree.old → OnErr result (HasTaken m was from steps told tree.new) }
+    ensures ok { OnOk result ((o : Told) × (outcomes.new.items ≡ outcomes.old.items ++ o ∷ []) × ((may : Allowance) → AllowsDrops (allowed may) (strategies_of (λ b. may_choose b) (λ b. may_refuse b) strategies.now) → (m : Map) (was : Memory) (from : ℕ) (steps : List Step) (told : List Told) → HasTaken (allowed may) m was from steps told tree.old → HasTaken (allowed may) m was from (steps ++ list.now) (told ++ o ∷ []) tree.new)) }
+    ensures err { (may : Allowance) (m : Map) (was : Memory) (from : ℕ) (steps : List Step) (told : List Told) → HasTaken (allowed may) m was from steps told tree.old → OnErr result (HasTaken (allowed may) m was from steps told tree.new) }
     ensures outcomes_err { OnErr result (outcomes.new.items ≡ outcomes.old.items) }
 {
     outcomes.try_reserve(1)?;
@@ -114,7 +116,7 @@ pub fn take_each(
 ) -> Taken
     ensures bound { length result.outcomes.items ≤ length steps.now }
     ensures whole { OnOk result.ended (length result.outcomes.items ≡ length steps.now) }
-    ensures taken { (m : Map) (was : Memory) (from : ℕ) (before : List Step) (told : List Told) → HasTaken m was from before told tree.old → HasTaken m was from (before ++ take (length result.outcomes.items) steps.now) (told ++ result.outcomes.items) tree.new }
+    ensures taken { (may : Allowance) → AllowsDrops (allowed may) (strategies_of (λ b. may_choose b) (λ b. may_refuse b) strategies.now) → (m : Map) (was : Memory) (from : ℕ) (before : List Step) (told : List Told) → HasTaken (allowed may) m was from before told tree.old → HasTaken (allowed may) m was from (before ++ take (length result.outcomes.items) steps.now) (told ++ result.outcomes.items) tree.new }
 {
     let mut outcomes = Vec::new(alloc);
     for at in 0..steps.len() {
@@ -147,7 +149,7 @@ pub fn live_singly(
     ensures bound { IfOk result (λ r. length r.1.outcomes.items ≤ length steps.now) }
     ensures whole { IfOk result (λ r. OnOk r.1.ended (length r.1.outcomes.items ≡ length steps.now)) }
     ensures refused { (m : Map) → MayBeOpened store m → IfErr result (RefusesFound (world_of store).gives) }
-    ensures lives { (m : Map) → MayBeOpened store m → IfOk result (λ r. HasLived m store from (take (length r.1.outcomes.items) steps.now) r.1.outcomes.items r.0) }
+    ensures lives { (may : Allowance) → AllowsDrops (allowed may) (strategies_of (λ b. may_choose b) (λ b. may_refuse b) strategies.now) → (m : Map) → MayBeOpened store m → IfOk result (λ r. HasLived (allowed may) m store from (take (length r.1.outcomes.items) steps.now) r.1.outcomes.items r.0) }
 {
     let mut tree = open(alloc, store, strategies, from)?;
     let taken = take_each(alloc, &mut tree, strategies, steps);
@@ -164,7 +166,7 @@ pub fn crash_between_single_steps(
 ) -> Result<Option<TwoLives>, Error>
     requires new { Begins (λ _. None) (world_of store) }
     ensures survives { AllByRecursion IsUsual first.now → AllByRecursion IsUsual second.now → SurvivesOrWants first.now second.now result }
-    ensures crashed { CrashesAsPicked picks.now store first.now result }
+    ensures crashed { CrashesAsPicked 0 picks.now store first.now result }
 {
     crash_by_hand(alloc, store, 0, first, picks, 0, second)
 }

@@ -1,5 +1,5 @@
 -- What the steps of a run add to the journal, by their kinds and replies.
-use Rattle.std.proofs.Common.{◌≡◌, inl, inr, ℕ, Bool, true, false, cond, List, [], ◌∷◌, ◌++◌, Option, Result, Ok, Err, IfOk, refl, sym, subst}
+use Rattle.std.proofs.Common.{◌≡◌, inl, inr, ℕ, Bool, true, false, cond, List, [], ◌∷◌, ◌++◌, Option, Some, Result, Ok, Err, IfOk, refl, sym, ap, subst}
 use Rattle.std.specs.Bool.{MatchBool}
 use Rattle.std.specs.List.{AllByRecursion}
 use Rattle.lsm_below.specs.Each.{each_append}
@@ -31,6 +31,7 @@ use Rattle.lsm_state.specs.declared.compaction.Finished.TheVariants.{Installed a
 use Rattle.lsm_state.specs.Core.{Core}
 use Rattle.lsm_state.specs.Compactions.{Relation, MayAnswer, levels_of}
 use Rattle.lsm_state.specs.CompactionReads.{ranges_told, TellsChoice, TellsMerge}
+use Rattle.lsm_state.specs.Dropping.{DropsSome, drops_some}
 use Rattle.lsm_state.specs.FlushReads.{register_events, flush_events}
 use Rattle.lsm_state.specs.WholeCompactions.{options_at, only_memory, major_choice, drop_choice}
 use Rattle.lsm_journal.specs.Noted.{IsAnswerOf, BeginsAnswer, TellsBehind, CompactsAnswer}
@@ -42,16 +43,19 @@ use Rattle.lsm_runs.specs.declared.steps.Reply.{Reply}
 use Rattle.lsm_runs.specs.declared.steps.Reply.TheVariants as reply
 use Rattle.lsm_runs.specs.declared.steps.Step.{Step as Call}
 use Rattle.lsm_runs.specs.declared.steps.Step.TheVariants as step
-use Rattle.lsm_runs.specs.Adds.{AddsEntry, AddsBatch, AddsGet, AddsPairs, AddsClear, AnyRanges, NoRanges, RangesWithin, IsUpkeep, IsUpkeepOrDrop, JobAdds, Adds, EachAdds}
+use Rattle.lsm_runs.specs.Adds.{AddsEntry, AddsBatch, AddsGet, AddsPairs, AddsClear, NoRanges, RangesWithin, IsUpkeep, IsUpkeepOrDrop, JobAdds, Adds, EachAdds}
 use Rattle.lsm_runs.specs.Clearing.{TakesClear, TakesForget}
 use Rattle.lsm_runs.specs.Compacting.{Strategies, TakesBeginCompaction, TakesRunCompaction, TakesFinish, TakesAbandonCompaction, CompactsFrom, TakesCompact, TakesMajor, TakesDropRange, TakesTableId}
+use Rattle.lsm_runs.specs.Dropping.{may_drop}
 use Rattle.lsm_runs.specs.Flushing.{TakesBegin, TakesRun, TakesTables, TakesRegister, TakesAbandon, TakesFlush, TakesFlushActive, TakesMoment}
 use Rattle.lsm_runs.specs.JobSteps.{TakesJob}
+use Rattle.lsm_runs.specs.OpenFlushes.{BegunFlush, none_begun, begun_after}
 use Rattle.lsm_runs.specs.ReadSteps.{TakesGet, TakesGetEntry, TakesPairs}
 use Rattle.lsm_runs.specs.Runs.{Takes, TakesAlone, TakesEntry, TakesBatch, TakesRotate, TakesNext, TakesCounter, Ran, RanToEnd}
-use Rattle.lsm_runs.specs.Slots.{Stage}
+use Rattle.lsm_runs.specs.Slots.{Stage, at_first}
 use Rattle.lsm_runs.specs.Told.{Told}
 use Rattle.lsm_runs.proofs.Dropping.{drop_within}
+use Rattle.lsm_runs.proofs.Merged.{AreMerged, merged_at, merged_in, first_merged, own_merged, takes_merged}
 
 -- ---- writes, reads and counters
 
@@ -118,9 +122,9 @@ forget_adds r events old new t = absurd t
 all_of : (P : Event → Type 0) (events told : List Event) → events ≡ told → AllByRecursion P told → AllByRecursion P events
 all_of P events told is h = subst (AllByRecursion P) (sym is) h
 
-registered : (w n : ℕ) (r : Result Outcome Error) → AllByRecursion (IsUpkeep (λ v. Unit {0})) (register_events w n r)
-registered w n (Ok a) = elim a.installed as (λ b. AllByRecursion (IsUpkeep (λ v. Unit {0})) (cond b (Mark w ∷ (Install n ∷ [])) (Mark w ∷ []))) [ true ↦ (tt, (tt, tt)) | false ↦ (tt, tt) ]
-registered w n (Err e) = (tt, tt)
+registered : (w v n : ℕ) → v ≡ w → (r : Result Outcome Error) → AllByRecursion (IsUpkeep (λ u. u ≡ w)) (register_events v n r)
+registered w v n own (Ok a) = elim a.installed as (λ b. AllByRecursion (IsUpkeep (λ u. u ≡ w)) (cond b (Mark v ∷ (Install n ∷ [])) (Mark v ∷ []))) [ true ↦ (own, (tt, tt)) | false ↦ (own, tt) ]
+registered w v n own (Err e) = (own, tt)
 
 flushed : (w n : ℕ) (marked : Bool) (r : Result (Option (ℕ × Outcome)) Error) → AllByRecursion (IsUpkeep (λ v. v ≡ w)) (flush_events w n marked r)
 flushed w n false r = tt
@@ -138,11 +142,11 @@ active_adds w (reply.RefusedActive id x) events old new (inl t) = all_of (IsUpke
 active_adds w (reply.RefusedActive id x) events old new (inr t) = all_of (IsUpkeep (λ v. v ≡ w)) events _ t.2.1 (flushed w t.0.seqno t.2.0 (Err x))
 active_adds w r events old new t = absurd t
 
-register_adds : (r : Reply) (events : List Event) (was is : Option Job) (old new : Core) → TakesRegister r events was is old new → AllByRecursion (IsUpkeep (λ v. Unit {0})) events
-register_adds (reply.Registered a) events was is old new t = all_of (IsUpkeep (λ v. Unit {0})) events _ t.3 (registered t.0.watermark old.seqno (Ok a))
-register_adds (reply.Refused x) events was is old new t = all_of (IsUpkeep (λ v. Unit {0})) events _ t.3 (registered t.0.watermark old.seqno (Err x))
-register_adds reply.NoJob events was is old new t = all_of (IsUpkeep (λ v. Unit {0})) events [] t.0.0 tt
-register_adds r events was is old new t = absurd t
+register_adds : (flush : BegunFlush) (r : Reply) (events : List Event) (was is : Option Job) (old new : Core) → ((w : ℕ) → merged_at was ≡ Some w → w ≡ flush.watermark) → TakesRegister r events was is old new → AllByRecursion (IsUpkeep (λ v. v ≡ flush.watermark)) events
+register_adds flush (reply.Registered a) events was is old new known t = all_of (IsUpkeep (λ v. v ≡ flush.watermark)) events _ t.3 (registered flush.watermark t.0.watermark old.seqno (known t.0.watermark (ap merged_at t.1)) (Ok a))
+register_adds flush (reply.Refused x) events was is old new known t = all_of (IsUpkeep (λ v. v ≡ flush.watermark)) events _ t.3 (registered flush.watermark t.0.watermark old.seqno (known t.0.watermark (ap merged_at t.1)) (Err x))
+register_adds flush reply.NoJob events was is old new known t = all_of (IsUpkeep (λ v. v ≡ flush.watermark)) events [] t.0.0 tt
+register_adds flush r events was is old new known t = absurd t
 
 begin_adds : (r : Reply) (events : List Event) (was is : Option Job) (old new : Core) → TakesBegin r events was is old new → events ≡ []
 begin_adds (reply.Begun b) events was is old new t = t.0
@@ -211,20 +215,16 @@ module _ (Of : ℕ → Type 0) (May : List Range → Type 0) where
     from_adds : (o : Options) → Of o.mvcc_gc_watermark → (r : Reply) (events : List Event) (old new : Core) → ((choice : Choice) → MayAnswer may_choose old choice → MayTell old choice) → CompactsFrom may_choose may_refuse o r events old new → AllByRecursion IsTold events
     from_adds o own r events old new may c = compacted_adds c.answer o own c.does.done events old new (answer_may old may c.answer c.answered) c.does.compacts
 
--- a strategy of the caller's may drop any tables
-any_told : (Of : ℕ → Type 0) (c : Core) (choice : Choice) → MayTell Of AnyRanges c choice
-any_told Of c DoNothing = tt
-any_told Of c (Move input) = tt
-any_told Of c (Merge input) = tt
-any_told Of c (Drop ids) = (tt, tt)
+-- a strategy of the caller's drops what it may
+chosen_told : (Of : ℕ → Type 0) (may : Relation Choice) (c : Core) (choice : Choice) → MayAnswer may c choice → MayTell Of (DropsSome may) c choice
+chosen_told Of may c DoNothing is = tt
+chosen_told Of may c (Move input) is = tt
+chosen_told Of may c (Merge input) is = tt
+chosen_told Of may c (Drop ids) is = (drops_some may c _ (ids.keys, (Drop ids, is, refl), refl), tt)
 
-any_begun : (Of : ℕ → Type 0) (c : Core) (answer : Result Choice Error) → IfOk answer (MayTell Of AnyRanges c)
-any_begun Of c (Ok choice) = any_told Of c choice
-any_begun Of c (Err e) = tt
-
-compact_adds : (strategies : Strategies) (at : ℕ) (o : Options) (r : Reply) (events : List Event) (old new : Core) → TakesCompact strategies at o r events old new → AllByRecursion (IsUpkeepOrDrop (λ v. v ≡ o.mvcc_gc_watermark) AnyRanges) events
-compact_adds strategies at o reply.NoStrategy events old new t = all_of (IsUpkeepOrDrop (λ v. v ≡ o.mvcc_gc_watermark) AnyRanges) events [] t.0 tt
-compact_adds strategies at o r events old new t = from_adds (λ v. v ≡ o.mvcc_gc_watermark) AnyRanges (strategies.may_choose at) (strategies.may_refuse at) o refl r events old new (λ choice may. any_told (λ v. v ≡ o.mvcc_gc_watermark) old choice) t.1
+compact_adds : (strategies : Strategies) (at : ℕ) (o : Options) (r : Reply) (events : List Event) (old new : Core) → TakesCompact strategies at o r events old new → AllByRecursion (IsUpkeepOrDrop (λ v. v ≡ o.mvcc_gc_watermark) (may_drop strategies at)) events
+compact_adds strategies at o reply.NoStrategy events old new t = all_of (IsUpkeepOrDrop (λ v. v ≡ o.mvcc_gc_watermark) (may_drop strategies at)) events [] t.0 tt
+compact_adds strategies at o r events old new t = from_adds (λ v. v ≡ o.mvcc_gc_watermark) (may_drop strategies at) (strategies.may_choose at) (strategies.may_refuse at) o refl r events old new (chosen_told (λ v. v ≡ o.mvcc_gc_watermark) (strategies.may_choose at) old) t.1
 
 -- a merge of all tables drops none
 none_told : (target w : ℕ) (c : Core) (choice : Choice) → MayAnswer (major_choice target) c choice → MayTell (λ v. v ≡ w) NoRanges c choice
@@ -255,10 +255,13 @@ range_adds : (bounds : OwnedBounds) (r : Reply) (events : List Event) (old new :
 range_adds bounds r events old new (inl t) = all_of (IsUpkeepOrDrop (λ v. v ≡ 0) (RangesWithin bounds.start bounds.end)) events [] t.3 tt
 range_adds bounds r events old new (inr t) = from_adds (λ v. v ≡ 0) (RangesWithin bounds.start bounds.end) (drop_choice bounds) only_memory (options_at 0 old) refl r events old new (within_told bounds old t.2) t.1
 
-begin_compaction_adds : (strategies : Strategies) (at : ℕ) (o : Options) (r : Reply) (events : List Event) (was is : Option Job) (old new : Core) → TakesBeginCompaction strategies at o r events was is old new → AllByRecursion (IsUpkeepOrDrop (λ v. v ≡ o.mvcc_gc_watermark) AnyRanges) events
-begin_compaction_adds strategies at o reply.SlotInUse events was is old new t = all_of (IsUpkeepOrDrop (λ v. v ≡ o.mvcc_gc_watermark) AnyRanges) events [] t.0.0 tt
-begin_compaction_adds strategies at o reply.NoStrategy events was is old new t = all_of (IsUpkeepOrDrop (λ v. v ≡ o.mvcc_gc_watermark) AnyRanges) events [] t.0.0 tt
-begin_compaction_adds strategies at o r events was is old new t = begun_adds (λ v. v ≡ o.mvcc_gc_watermark) AnyRanges t.answer o refl t.begun events old new (any_begun (λ v. v ≡ o.mvcc_gc_watermark) old t.answer) t.begins
+begin_compaction_adds : (strategies : Strategies) (at : ℕ) (o : Options) (r : Reply) (events : List Event) (was is : Option Job) (old new : Core) → TakesBeginCompaction strategies at o r events was is old new → AllByRecursion (IsUpkeepOrDrop (λ v. v ≡ o.mvcc_gc_watermark) (may_drop strategies at)) events
+begin_compaction_adds strategies at o reply.SlotInUse events was is old new t = all_of (IsUpkeepOrDrop (λ v. v ≡ o.mvcc_gc_watermark) (may_drop strategies at)) events [] t.0.0 tt
+begin_compaction_adds strategies at o reply.NoStrategy events was is old new t = all_of (IsUpkeepOrDrop (λ v. v ≡ o.mvcc_gc_watermark) (may_drop strategies at)) events [] t.0.0 tt
+begin_compaction_adds strategies at o r events was is old new t =
+    let may = strategies.may_choose at in
+    let told = answer_may (λ v. v ≡ o.mvcc_gc_watermark) (may_drop strategies at) may (strategies.may_refuse at) old (chosen_told (λ v. v ≡ o.mvcc_gc_watermark) may old) t.answer t.answered in
+    begun_adds (λ v. v ≡ o.mvcc_gc_watermark) (may_drop strategies at) t.answer o refl t.begun events old new told t.begins
 
 run_compaction_adds : (r : Reply) (events : List Event) (was is : Option Job) (old new : Core) → TakesRunCompaction r events was is old new → events ≡ []
 run_compaction_adds reply.Done events was is old new t = t.0
@@ -284,63 +287,71 @@ abandon_compaction_adds r events was is old new t = absurd t
 
 -- ---- all steps
 
-job_adds : (strategies : Strategies) (x : JobStep) (r : Reply) (events : List Event) (was is : Option Job) (old new : Core) → TakesJob strategies x r events was is old new → JobAdds x events
-job_adds strategies job.BeginFlush r events was is old new t = begin_adds r events was is old new t
-job_adds strategies (job.RunFlush w) r events was is old new t = run_adds w r events was is old new t
-job_adds strategies job.FlushToTables r events was is old new t = tables_add r events was is old new t
-job_adds strategies job.RegisterTables r events was is old new t = register_adds r events was is old new t
-job_adds strategies job.AbandonFlush r events was is old new t = abandon_adds r events was is old new t
-job_adds strategies (job.BeginCompaction at o) r events was is old new t = begin_compaction_adds strategies at o r events was is old new t
-job_adds strategies job.RunCompaction r events was is old new t = run_compaction_adds r events was is old new t
-job_adds strategies job.FinishCompaction r events was is old new t = finish_adds r events was is old new t
-job_adds strategies job.AbandonCompaction r events was is old new t = abandon_compaction_adds r events was is old new t
+module _ (strategies : Strategies) (begun : ℕ → BegunFlush) where
+  job_adds : (flush : BegunFlush) (x : JobStep) (r : Reply) (events : List Event) (was is : Option Job) (old new : Core) → ((w : ℕ) → merged_at was ≡ Some w → w ≡ flush.watermark) → TakesJob strategies x r events was is old new → JobAdds (may_drop strategies) flush x events
+  job_adds flush job.BeginFlush r events was is old new known t = begin_adds r events was is old new t
+  job_adds flush (job.RunFlush w) r events was is old new known t = run_adds w r events was is old new t
+  job_adds flush job.FlushToTables r events was is old new known t = tables_add r events was is old new t
+  job_adds flush job.RegisterTables r events was is old new known t = register_adds flush r events was is old new known t
+  job_adds flush job.AbandonFlush r events was is old new known t = abandon_adds r events was is old new t
+  job_adds flush (job.BeginCompaction at o) r events was is old new known t = begin_compaction_adds strategies at o r events was is old new t
+  job_adds flush job.RunCompaction r events was is old new known t = run_compaction_adds r events was is old new t
+  job_adds flush job.FinishCompaction r events was is old new known t = finish_adds r events was is old new t
+  job_adds flush job.AbandonCompaction r events was is old new known t = abandon_compaction_adds r events was is old new t
 
-alone_adds : (strategies : Strategies) (x : Call) (r : Reply) (events : List Event) (old new : Core) → TakesAlone strategies x r events old new → Adds x r events
-alone_adds strategies (step.Insert k v n) r events old new t = entry_adds _ r events old new t
-alone_adds strategies (step.Remove k n) r events old new t = entry_adds _ r events old new t
-alone_adds strategies (step.RemoveWeak k n) r events old new t = entry_adds _ r events old new t
-alone_adds strategies (step.AppendEntry e) r events old new t = entry_adds _ r events old new t
-alone_adds strategies (step.Write ops) r events old new t = batch_adds ops r events old new t
-alone_adds strategies (step.Get k s) r events old new t = get_adds k s r events old new t
-alone_adds strategies (step.GetInternalEntry k s) r events old new t = entry_of_adds k s r events old new t
-alone_adds strategies (step.ContainsKey k s) r events old new t = t.0
-alone_adds strategies (step.SizeOf k s) r events old new t = t.0
-alone_adds strategies (step.Range low high s) r events old new t = pairs_add _ _ s r events old new t
-alone_adds strategies (step.Iter s) r events old new t = pairs_add _ _ s r events old new t
-alone_adds strategies (step.Prefix p s) r events old new t = pairs_add _ _ s r events old new t
-alone_adds strategies (step.Len s) r events old new t = t.0
-alone_adds strategies (step.IsEmpty s) r events old new t = t.0
-alone_adds strategies (step.FirstKeyValue s) r events old new t = t.0
-alone_adds strategies (step.LastKeyValue s) r events old new t = t.0
-alone_adds strategies step.RotateMemtable r events old new t = rotate_adds r events old new t
-alone_adds strategies (step.Next counter) r events old new t = next_adds counter r events old new t
-alone_adds strategies (step.Set counter n) r events old new t = counter_adds counter n r events old new t
-alone_adds strategies (step.FetchMax counter n) r events old new t = counter_adds counter _ r events old new t
-alone_adds strategies (step.Flush w) r events old new t = flush_adds w r events old new t
-alone_adds strategies (step.FlushActiveMemtable w) r events old new t = active_adds w r events old new t
-alone_adds strategies (step.Compact at w) r events old new t = compact_adds strategies at _ r events old new t
-alone_adds strategies (step.DoCompaction at o) r events old new t = compact_adds strategies at o r events old new t
-alone_adds strategies (step.MajorCompact target w) r events old new t = major_adds target w r events old new t
-alone_adds strategies (step.DropRange low high) r events old new t = range_adds _ r events old new t
-alone_adds strategies step.Clear r events old new t = clear_adds r events old new t
-alone_adds strategies step.ClearActiveMemtable r events old new t = forget_adds r events old new t
-alone_adds strategies step.GetNextTableId r events old new t = id_adds r events old new t
-alone_adds strategies (step.SetMoment n) r events old new t = moment_adds n r events old new t
-alone_adds strategies (step.Count what) r events old new t = t.0
-alone_adds strategies step.IsUncertain r events old new t = t.0
-alone_adds strategies step.IsCompacting r events old new t = t.0
-alone_adds strategies step.TreeType r events old new t = t.0
-alone_adds strategies (step.AtSlot slot x) r events old new t = absurd t
+  alone_adds : (x : Call) (r : Reply) (events : List Event) (old new : Core) → TakesAlone strategies x r events old new → Adds (may_drop strategies) begun x r events
+  alone_adds (step.Insert k v n) r events old new t = entry_adds _ r events old new t
+  alone_adds (step.Remove k n) r events old new t = entry_adds _ r events old new t
+  alone_adds (step.RemoveWeak k n) r events old new t = entry_adds _ r events old new t
+  alone_adds (step.AppendEntry e) r events old new t = entry_adds _ r events old new t
+  alone_adds (step.Write ops) r events old new t = batch_adds ops r events old new t
+  alone_adds (step.Get k s) r events old new t = get_adds k s r events old new t
+  alone_adds (step.GetInternalEntry k s) r events old new t = entry_of_adds k s r events old new t
+  alone_adds (step.ContainsKey k s) r events old new t = t.0
+  alone_adds (step.SizeOf k s) r events old new t = t.0
+  alone_adds (step.Range low high s) r events old new t = pairs_add _ _ s r events old new t
+  alone_adds (step.Iter s) r events old new t = pairs_add _ _ s r events old new t
+  alone_adds (step.Prefix p s) r events old new t = pairs_add _ _ s r events old new t
+  alone_adds (step.Len s) r events old new t = t.0
+  alone_adds (step.IsEmpty s) r events old new t = t.0
+  alone_adds (step.FirstKeyValue s) r events old new t = t.0
+  alone_adds (step.LastKeyValue s) r events old new t = t.0
+  alone_adds step.RotateMemtable r events old new t = rotate_adds r events old new t
+  alone_adds (step.Next counter) r events old new t = next_adds counter r events old new t
+  alone_adds (step.Set counter n) r events old new t = counter_adds counter n r events old new t
+  alone_adds (step.FetchMax counter n) r events old new t = counter_adds counter _ r events old new t
+  alone_adds (step.Flush w) r events old new t = flush_adds w r events old new t
+  alone_adds (step.FlushActiveMemtable w) r events old new t = active_adds w r events old new t
+  alone_adds (step.Compact at w) r events old new t = compact_adds strategies at _ r events old new t
+  alone_adds (step.DoCompaction at o) r events old new t = compact_adds strategies at o r events old new t
+  alone_adds (step.MajorCompact target w) r events old new t = major_adds target w r events old new t
+  alone_adds (step.DropRange low high) r events old new t = range_adds _ r events old new t
+  alone_adds step.Clear r events old new t = clear_adds r events old new t
+  alone_adds step.ClearActiveMemtable r events old new t = forget_adds r events old new t
+  alone_adds step.GetNextTableId r events old new t = id_adds r events old new t
+  alone_adds (step.SetMoment n) r events old new t = moment_adds n r events old new t
+  alone_adds (step.Count what) r events old new t = t.0
+  alone_adds step.IsUncertain r events old new t = t.0
+  alone_adds step.IsCompacting r events old new t = t.0
+  alone_adds step.TreeType r events old new t = t.0
+  alone_adds (step.AtSlot slot x) r events old new t = absurd t
 
-pub takes_adds : (strategies : Strategies) (x : Call) (r : Reply) (events : List Event) (old new : Stage) → Takes strategies x r events old new → Adds x r events
-takes_adds strategies (step.AtSlot slot x) r events old new t = job_adds strategies x r events (old.jobs slot) (new.jobs slot) old.core new.core t.0
-takes_adds strategies x r events old new t = alone_adds strategies x r events old.core new.core t.0
+  pub takes_adds : (x : Call) (r : Reply) (events : List Event) (old new : Stage) → AreMerged begun old.jobs → Takes strategies x r events old new → Adds (may_drop strategies) begun x r events
+  takes_adds (step.AtSlot slot x) r events old new known t = job_adds (begun slot) x r events (old.jobs slot) (new.jobs slot) old.core new.core (known slot) t.0
+  takes_adds x r events old new known t = alone_adds x r events old.core new.core t.0
 
-ran_adds : (strategies : Strategies) (xs : List Call) (ts : List Told) (old new : Stage) → Ran strategies xs ts old new → EachAdds xs ts
-ran_adds strategies [] [] old new r = tt
-ran_adds strategies [] (t ∷ ts) old new r = absurd r
-ran_adds strategies (x ∷ xs) [] old new r = absurd r
-ran_adds strategies (x ∷ xs) (t ∷ ts) old new r = (takes_adds strategies x t.reply t.entries old r.0 r.1, ran_adds strategies xs ts r.0 new r.2)
+-- where nothing is known of the flushes that were begun, what waits tells it
+pub takes_add_some : (strategies : Strategies) (x : Call) (r : Reply) (events : List Event) (old new : Stage) → Takes strategies x r events old new → Adds (may_drop strategies) (merged_in old.jobs) x r events
+takes_add_some strategies x r events old new t = takes_adds strategies (merged_in old.jobs) x r events old new (own_merged old.jobs) t
 
-pub run_adds_so : (strategies : Strategies) (xs : List Call) (ts : List Told) (old new : Core) → RanToEnd strategies xs ts old new → EachAdds xs ts
-run_adds_so strategies xs ts old new r = ran_adds strategies xs ts _ r.0 r.1
+ran_adds : (strategies : Strategies) (begun : ℕ → BegunFlush) (xs : List Call) (ts : List Told) (old new : Stage) → AreMerged begun old.jobs → Ran strategies xs ts old new → EachAdds (may_drop strategies) begun xs ts
+ran_adds strategies begun [] [] old new known r = tt
+ran_adds strategies begun [] (t ∷ ts) old new known r = absurd r
+ran_adds strategies begun (x ∷ xs) [] old new known r = absurd r
+ran_adds strategies begun (x ∷ xs) (t ∷ ts) old new known r = (
+  takes_adds strategies begun x t.reply t.entries old r.0 known r.1,
+  λ sealed. ran_adds strategies (begun_after sealed x t.reply begun) xs ts r.0 new (takes_merged strategies sealed begun x t.reply t.entries old r.0 known r.1) r.2,
+)
+
+pub run_adds_so : (strategies : Strategies) (xs : List Call) (ts : List Told) (old new : Core) → RanToEnd strategies xs ts old new → EachAdds (may_drop strategies) none_begun xs ts
+run_adds_so strategies xs ts old new r = ran_adds strategies none_begun xs ts (at_first old) r.0 (first_merged old) r.1

@@ -179,7 +179,7 @@ does_counts (Merge input) o (Ok b) old new d = told_as (Ok b) _ old.seqno new.se
 does_counts (Merge input) o (Err e) old new d = refused Installed e old.seqno new.seqno (⊎_elim (λ (is : e ≡ OutOfMemory) (h : e ≡ AfterCommit). cc (is, h)) (λ (is : e ≡ OutOfNumbers) (h : e ≡ AfterCommit). cc (is, h)) d.only) (near_same old.seqno new.seqno (seqno_of new old d.err))
 does_counts (Drop ids) o r old new d = settled_counts Installed _ o.mvcc_gc_watermark r old new d.settles d.only
 
-choice_counts : (choice : Choice) (o : Options) (r : Result Begun Error) (old new : Core) → BeginsChoice choice o r old new → Counts Installed r old.seqno new.seqno
+pub choice_counts : (choice : Choice) (o : Options) (r : Result Begun Error) (old new : Core) → BeginsChoice choice o r old new → Counts Installed r old.seqno new.seqno
 choice_counts choice o r old new b = by_lost old.lost refl
   where
     by_reason : old.lost ≡ None → (why : Option Why) → reason_of choice old ≡ why → Counts Installed r old.seqno new.seqno
@@ -234,7 +234,7 @@ ends_counts : (job : SeenCompaction) (r : Result Finished Error) (old new : Core
 ends_counts job r old new (inl e) = refused_as IsFinished r OutOfMemory old.seqno new.seqno e.0 (λ h. cc h) (near_same old.seqno new.seqno (seqno_of new old e.1))
 ends_counts job r old new (inr e) = ends_for_counts job e.0 r old new e.2
 
-finishes_counts : (job : SeenCompaction) (r : Result Finished Error) (old new : Core) → Finishes job r old new → Counts IsFinished r old.seqno new.seqno
+pub finishes_counts : (job : SeenCompaction) (r : Result Finished Error) (old new : Core) → Finishes job r old new → Counts IsFinished r old.seqno new.seqno
 finishes_counts job r old new f = by_lost old.lost refl
   where
     ended : ((IsOpenIn job old.merges.underway → ⊥) × ((r ≡ Ok (Over UnknownJob)) × (new ≡ old))) ⊎ (IsOpenIn job old.merges.underway × Ends job r (closed job.number old) new) → Counts IsFinished r old.seqno new.seqno
@@ -273,14 +273,14 @@ ended_so (Err x) h = ⊎_elim (λ (e : ◌≡◌ {A = Result Begun Error} (Err x
     same : ◌≡◌ {A = Result Begun Error} (Err x) (Err AfterCommit) → x ≡ AfterCommit
     same e = cc
 
-completes_counts : (job : SeenCompaction) (r : Result Begun Error) (old new : Core) → Completes job r old new → Counts Installed r old.seqno new.seqno
+pub completes_counts : (job : SeenCompaction) (r : Result Begun Error) (old new : Core) → Completes job r old new → Counts Installed r old.seqno new.seqno
 completes_counts job r old new (inl c) = refused_as Installed r OutOfMemory old.seqno new.seqno c.0 (λ h. cc h) (near_same old.seqno new.seqno (spends_same job old new c.1))
 completes_counts job r old new (inr c) =
     let k = finishes_counts job c.0 old new c.1 in
     subst (λ x. Counts Installed x old.seqno new.seqno) (sym c.3) (record { near = k.near; next = λ h. k.next (ended_so c.0 h) })
 
 -- where a merge waits the counter stands still
-waits_same : (choice : Choice) (o : Options) (job : SeenCompaction) (old new : Core) → BeginsChoice choice o (Ok (BegunMerge job)) old new → new.seqno ≡ old.seqno
+pub waits_same : (choice : Choice) (o : Options) (job : SeenCompaction) (old new : Core) → BeginsChoice choice o (Ok (BegunMerge job)) old new → new.seqno ≡ old.seqno
 waits_same choice o job old new b = by_lost old.lost refl
   where
     not_so : ◌≡◌ {A = Begun} (BegunMerge job) Installed → ⊥

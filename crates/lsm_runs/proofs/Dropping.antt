@@ -64,11 +64,11 @@ to_end (Included high) k b l h = le_trans nat_list_cmp_total k b high l h
 to_end (Excluded high) k b l h = then_below k b high l h
 to_end Unbounded k b l h = refl
 
-abbrev IsWithin : OwnedBounds → Bytes → Type 0
+abbrev pub IsWithin : OwnedBounds → Bytes → Type 0
 IsWithin bounds k = (is_from bounds.start k && is_to bounds.end k) ≡ true
 
 -- each key of a range within bounds
-key_within : (bounds : OwnedBounds) (r : Range) (k : Bytes) → holds bounds r ≡ true → in_range k r ≡ true → IsWithin bounds k
+pub key_within : (bounds : OwnedBounds) (r : Range) (k : Bytes) → holds bounds r ≡ true → in_range k r ≡ true → IsWithin bounds k
 key_within bounds r k h i =
     let ends = and_parts (starts_from bounds.start r.min) (ends_to bounds.end r.max) h in
     let at = and_parts (is_le (bytes_cmp r.min k)) (is_le (bytes_cmp k r.max)) i in

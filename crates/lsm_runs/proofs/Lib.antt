@@ -17,7 +17,10 @@ pub mod Unknown
 pub mod Spared
 pub mod After
 pub mod Dropping
+pub mod Merged
 pub mod Adds
+pub mod Allowing
+pub mod Boxes
 pub mod Small
 mod Counting
 pub mod OpenWork
@@ -40,5 +43,6 @@ pub mod Readiness
 pub mod Moments
 pub mod ReadFiles
 pub mod RunLives
+pub mod Starting
 pub mod Settled
 pub mod Openings

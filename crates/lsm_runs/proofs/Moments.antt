@@ -40,14 +40,16 @@ use Rattle.lsm_runs.specs.declared.steps.Reply.{Reply}
 use Rattle.lsm_runs.specs.declared.steps.Reply.TheVariants as reply
 use Rattle.lsm_runs.specs.Compacting.{Strategies}
 use Rattle.lsm_runs.specs.Drawing.{asks_of}
+use Rattle.lsm_runs.specs.Dropping.{may_drop}
+use Rattle.lsm_runs.specs.OpenFlushes.{none_begun}
 use Rattle.lsm_runs.specs.Chains.{Point, RanAlong, RanTo}
-use Rattle.lsm_runs.specs.Notes.{sealed_noted, flushed_noted, none_begun}
+use Rattle.lsm_runs.specs.Notes.{sealed_noted, flushed_noted}
 use Rattle.lsm_runs.specs.Moments.{job_noted, lost_noted, alone_noted, noted_of, outcome_of, outcomes_of, Reopens, FindsPlaced, StandsAfter, EachReady, HasMoments, TellsSo, GoesOn, RunHasMoments}
 use Rattle.lsm_runs.specs.Noting.{sealed_note, sealed_behind, flushed_note, job_notes, lost_note, alone_notes, notes_of, ids_in}
 use Rattle.lsm_runs.specs.Runs.{Takes, IsPlainUse, journal_of, without_low_reads}
 use Rattle.lsm_runs.specs.Slots.{Stage, at_first, Closes}
 use Rattle.lsm_runs.specs.Told.{Told}
-use Rattle.lsm_runs.proofs.Adds.{takes_adds}
+use Rattle.lsm_runs.proofs.Adds.{takes_add_some}
 use Rattle.lsm_runs.proofs.RunDeeds.{step_deeds}
 use Rattle.lsm_runs.proofs.JobReplays.{AreMarked, first_marked_behind}
 use Rattle.lsm_runs.proofs.Files.{closed_stored}
@@ -56,6 +58,7 @@ use Rattle.lsm_run_model.proofs.LowReads.{without-append}
 use Rattle.lsm_runs.proofs.Members.{in_either, in_front}
 use Rattle.lsm_runs.proofs.Notes.{AreBegun, first_begun, each_tells, front_grows}
 use Rattle.lsm_runs.proofs.Made.{takes_one}
+use Rattle.lsm_runs.proofs.Merged.{AreMerged, first_merged, merged_in}
 use Rattle.lsm_runs.proofs.Readiness.{OnlyNow, stored_stays_ready, step_ready}
 use Rattle.lsm_runs.proofs.Replays.{takes_marked}
 use Rattle.lsm_runs.proofs.Small.{IsSmall}
@@ -245,7 +248,7 @@ module _ (laws : KeepLaws) (strategies : Strategies) (opened : List Entry) (star
   each_uses : (xs : List Call) (ts : List Told) (old : Point F) (points : List (Point F)) → RanAlong world strategies xs ts old points → EachUses (map asks_of xs) (outcomes_of xs ts old points) old.stage.core.seqno (map (λ p. p.stage.core.seqno) points)
   each_uses [] [] old [] r = tt
   each_uses (x ∷ xs) (t ∷ ts) old (mid ∷ points) r =
-      (takes_numbers strategies x t.reply t.entries old.stage mid.stage r.0, adds_keys x t.reply t.entries (takes_adds strategies x t.reply t.entries old.stage mid.stage r.0), each_uses xs ts mid points r.2)
+      (takes_numbers strategies x t.reply t.entries old.stage mid.stage r.0, adds_keys (may_drop strategies) (merged_in old.stage.jobs) x t.reply t.entries (takes_add_some strategies x t.reply t.entries old.stage mid.stage r.0), each_uses xs ts mid points r.2)
   each_uses xs ts old points r = absurd r
 
   all_points : (xs : List Call) (ts : List Told) (old : Point F) (points : List (Point F)) → RanAlong world strategies xs ts old points → length (outcomes_of xs ts old points) ≡ length points
@@ -305,11 +308,14 @@ module _ (laws : KeepLaws) (strategies : Strategies) (opened : List Entry) (star
         came = subst (λ (p : Place F). CameAbout opened start p.tree) (last_same many xs ts past old points r)
             (whole many plain stands order (next_number opened (after_all opened past (take many outcomes)).journal) (bounded opened (after_all opened past (take many outcomes)).journal (next_number opened (after_all opened past (take many outcomes)).journal) (omega arith))).stands.came
 
-    tells_so : NotesTellSealed → TellsSo world opened start past xs ts old points
-    tells_so sealed many plain stands order = each_tells strategies opened world many xs ts past none_begun old points r begun known
+    tells_so : NotesTellSealed → TellsSo (may_drop strategies) world opened start past xs ts old points
+    tells_so sealed many plain stands order = each_tells strategies opened world many xs ts past none_begun old points r begun merged known
       where
         begun : AreBegun none_begun old.stage.jobs
         begun = subst (λ (s : Stage). AreBegun none_begun s.jobs) (sym free) (first_begun old.stage.core)
+
+        merged : AreMerged none_begun old.stage.jobs
+        merged = subst (λ (s : Stage). AreMerged none_begun s.jobs) (sym free) (first_merged old.stage.core)
 
         known : (k : ℕ) → k ≤ many → sealed_in (after_all opened past (take k outcomes)).notes ≡ sealed_ids (last_of old (take k points)).stage.core
         known k low =

@@ -25,23 +25,26 @@ use Rattle.lsm_runs.specs.declared.steps.Step.TheVariants as step
 use Rattle.lsm_runs.specs.declared.steps.Reply.{Reply}
 use Rattle.lsm_runs.specs.declared.steps.Reply.TheVariants as reply
 use Rattle.lsm_runs.specs.Adds.{Adds}
+use Rattle.lsm_runs.specs.Dropping.{may_drop}
 use Rattle.lsm_runs.specs.Compacting.{Strategies, TakesBeginCompaction, TakesRunCompaction, TakesFinish, TakesAbandonCompaction, job_of}
 use Rattle.lsm_runs.specs.Chains.{Point, RanAlong}
 use Rattle.lsm_runs.specs.Flushing.{TakesRun, TakesTables, TakesRegister, TakesAbandon}
 use Rattle.lsm_runs.specs.JobSteps.{TakesJob, TakesInSlot}
 use Rattle.lsm_runs.specs.Moments.{job_noted, alone_noted, noted_of, outcome_of, outcomes_of}
-use Rattle.lsm_runs.specs.Notes.{NotesRotation, NotesFlush, NotesFlushActive, NotesClear, JobNotes, Notes, begun_after, none_begun, EachTells}
+use Rattle.lsm_runs.specs.Notes.{NotesRotation, NotesFlush, NotesFlushActive, NotesClear, JobNotes, Notes, EachTells}
 use Rattle.lsm_runs.specs.Noting.{ids_in}
+use Rattle.lsm_runs.specs.OpenFlushes.{BegunFlush, none_begun, begun_after}
 use Rattle.lsm_runs.specs.Runs.{Takes}
 use Rattle.lsm_runs.specs.Slots.{Stage, at_first, flush_in}
 use Rattle.lsm_runs.specs.Told.{Told}
 use Rattle.lsm_runs.proofs.Adds.{takes_adds}
+use Rattle.lsm_runs.proofs.Merged.{AreMerged, takes_merged}
 
 -- ---- flushes whose jobs wait
 
 -- each is of the memtables that are known of its slot
-abbrev pub AreBegun : (ℕ → List ℕ) → (ℕ → Option Job) → Type 0
-AreBegun begun jobs = (n : ℕ) (job : SeenJob) → flush_in (jobs n) ≡ Some job → job.ids ≡ begun n
+abbrev pub AreBegun : (ℕ → BegunFlush) → (ℕ → Option Job) → Type 0
+AreBegun begun jobs = (n : ℕ) (job : SeenJob) → flush_in (jobs n) ≡ Some job → job.ids ≡ (begun n).ids
 
 none_is : {A : Type 0} {o : Option A} {x : A} → o ≡ None → o ≡ Some x → ⊥
 none_is absent there = let bad : None ≡ Some _ = sym absent ∙ there in absurd (cc bad)
@@ -121,25 +124,35 @@ module _ (was is : Option Job) where
 
 -- ---- slots
 
-module _ (begun : ℕ → List ℕ) (old new : ℕ → Option Job) (slot : ℕ) (others : (n : ℕ) → (n ≡ slot → ⊥) → new n ≡ old n) (known : AreBegun begun old) where
+module _ (begun : ℕ → BegunFlush) (old new : ℕ → Option Job) (slot : ℕ) (others : (n : ℕ) → (n ≡ slot → ⊥) → new n ≡ old n) (known : AreBegun begun old) where
   stay_begun : Stays (old slot) (new slot) → AreBegun begun new
   stay_begun stays n job waits = elim (eqb_tells n slot) [
     | inl e ↦ known n job (subst (λ k. flush_in (old k) ≡ Some job) (sym e.1) (stays job (subst (λ k. flush_in (new k) ≡ Some job) e.1 waits)))
     | inr e ↦ known n job (sym (ap flush_in (others n e.1)) ∙ waits)
   ]
 
-  now_begun : (ids : List ℕ) → ((job : SeenJob) → flush_in (new slot) ≡ Some job → job.ids ≡ ids) → AreBegun (λ n. cond (n == slot) ids (begun n)) new
-  now_begun ids mine n job waits = elim (eqb_tells n slot) [
-    | inl e ↦ mine job (subst (λ k. flush_in (new k) ≡ Some job) e.1 waits) ∙ sym (ap (λ b. cond b ids (begun n)) e.0)
-    | inr e ↦ known n job (sym (ap flush_in (others n e.1)) ∙ waits) ∙ sym (ap (λ b. cond b ids (begun n)) e.0)
+  now_begun : (flush : BegunFlush) → ((job : SeenJob) → flush_in (new slot) ≡ Some job → job.ids ≡ flush.ids) → AreBegun (λ n. cond (n == slot) flush (begun n)) new
+  now_begun flush mine n job waits = elim (eqb_tells n slot) [
+    | inl e ↦ mine job (subst (λ k. flush_in (new k) ≡ Some job) e.1 waits) ∙ sym (ap (λ b. (cond b flush (begun n)).ids) e.0)
+    | inr e ↦ known n job (sym (ap flush_in (others n e.1)) ∙ waits) ∙ sym (ap (λ b. (cond b flush (begun n)).ids) e.0)
   ]
 
-module _ (strategies : Strategies) (begun : ℕ → List ℕ) (slot : ℕ) (events : List Event) (old new : Stage) (known : AreBegun begun old.jobs) where
+  -- of a flush of the memtables that are known already
+  again_begun : (flush : BegunFlush) → flush.ids ≡ (begun slot).ids → Stays (old slot) (new slot) → AreBegun (λ n. cond (n == slot) flush (begun n)) new
+  again_begun flush same stays = now_begun flush (λ job waits. known slot job (stays job waits) ∙ sym same)
+
+module _ (strategies : Strategies) (begun : ℕ → BegunFlush) (slot : ℕ) (events : List Event) (old new : Stage) (known : AreBegun begun old.jobs) where
   begin_begun : (r : Reply) → TakesInSlot strategies slot job.BeginFlush r events old new → AreBegun (begun_after (sealed_ids old.core) (step.AtSlot slot job.BeginFlush) r begun) new.jobs
-  begin_begun (reply.Begun b) t = now_begun begun old.jobs new.jobs slot t.1 known (sealed_ids old.core) (begins_sealed (old.jobs slot) (new.jobs slot) events old.core new.core t.0.2.0 t.0.2.1 t.0.2.3)
+  begin_begun (reply.Begun b) t = now_begun begun old.jobs new.jobs slot t.1 known (record { ids = sealed_ids old.core; watermark = 0 }) (begins_sealed (old.jobs slot) (new.jobs slot) events old.core new.core t.0.2.0 t.0.2.1 t.0.2.3)
   begin_begun (reply.Refused x) t = stay_begun begun old.jobs new.jobs slot t.1 known (same_stays (old.jobs slot) (new.jobs slot) t.0.0.1)
   begin_begun reply.SlotInUse t = stay_begun begun old.jobs new.jobs slot t.1 known (same_stays (old.jobs slot) (new.jobs slot) t.0.0.1)
   begin_begun r t = absurd t.0
+
+  run_begun : (w : ℕ) (r : Reply) → TakesInSlot strategies slot (job.RunFlush w) r events old new → AreBegun (begun_after (sealed_ids old.core) (step.AtSlot slot (job.RunFlush w)) r begun) new.jobs
+  run_begun w reply.Done t = again_begun begun old.jobs new.jobs slot t.1 known (record { ids = (begun slot).ids; watermark = w }) refl (run_stays (old.jobs slot) (new.jobs slot) events old.core new.core w reply.Done t.0)
+  run_begun w (reply.Refused x) t = stay_begun begun old.jobs new.jobs slot t.1 known (same_stays (old.jobs slot) (new.jobs slot) t.0.0.1)
+  run_begun w reply.NoJob t = stay_begun begun old.jobs new.jobs slot t.1 known (same_stays (old.jobs slot) (new.jobs slot) t.0.0.1)
+  run_begun w r t = absurd t.0
 
   job_stays : (x : JobStep) (r : Reply) → (x ≡ job.BeginFlush → ⊥) → TakesJob strategies x r events (old.jobs slot) (new.jobs slot) old.core new.core → Stays (old.jobs slot) (new.jobs slot)
   job_stays job.BeginFlush r other t = absurd (other refl)
@@ -154,12 +167,13 @@ module _ (strategies : Strategies) (begun : ℕ → List ℕ) (slot : ℕ) (even
 
   slot_begun : (x : JobStep) (r : Reply) → TakesInSlot strategies slot x r events old new → AreBegun (begun_after (sealed_ids old.core) (step.AtSlot slot x) r begun) new.jobs
   slot_begun job.BeginFlush r t = begin_begun r t
+  slot_begun (job.RunFlush w) r t = run_begun w r t
   slot_begun x r t = stay_begun begun old.jobs new.jobs slot t.1 known (job_stays x r (λ e. cc e) t.0)
 
-same_begun : (begun : ℕ → List ℕ) (old new : ℕ → Option Job) → new ≡ old → AreBegun begun old → AreBegun begun new
+same_begun : (begun : ℕ → BegunFlush) (old new : ℕ → Option Job) → new ≡ old → AreBegun begun old → AreBegun begun new
 same_begun begun old new same known n job waits = known n job (sym (ap (λ (jobs : ℕ → Option Job). flush_in (jobs n)) same) ∙ waits)
 
-takes_begun : (strategies : Strategies) (begun : ℕ → List ℕ) (x : Call) (r : Reply) (events : List Event) (old new : Stage) → AreBegun begun old.jobs → Takes strategies x r events old new → AreBegun (begun_after (sealed_ids old.core) x r begun) new.jobs
+takes_begun : (strategies : Strategies) (begun : ℕ → BegunFlush) (x : Call) (r : Reply) (events : List Event) (old new : Stage) → AreBegun begun old.jobs → Takes strategies x r events old new → AreBegun (begun_after (sealed_ids old.core) x r begun) new.jobs
 takes_begun strategies begun (step.AtSlot slot x) r events old new known t = slot_begun strategies begun slot events old new known x r t
 takes_begun strategies begun x r events old new known t = same_begun begun old.jobs new.jobs t.1 known
 
@@ -195,33 +209,36 @@ job_notes : (strategies : Strategies) (ids : List ℕ) (x : JobStep) (r : Reply)
 job_notes strategies ids job.RegisterTables r events was is old new known t = registration_notes ids r events was is old new known t
 job_notes strategies ids x r events was is old new known t = refl
 
-takes_notes : (strategies : Strategies) (begun : ℕ → List ℕ) (x : Call) (r : Reply) (events : List Event) (old new : Stage) → AreBegun begun old.jobs → Takes strategies x r events old new → Notes (sealed_ids old.core) begun x r (noted_of x r old)
+takes_notes : (strategies : Strategies) (begun : ℕ → BegunFlush) (x : Call) (r : Reply) (events : List Event) (old new : Stage) → AreBegun begun old.jobs → Takes strategies x r events old new → Notes (sealed_ids old.core) begun x r (noted_of x r old)
 takes_notes strategies begun step.RotateMemtable r events old new known t = rotation_notes r old.core
 takes_notes strategies begun (step.Flush w) r events old new known t = flush_notes w r old.core
 takes_notes strategies begun (step.FlushActiveMemtable w) r events old new known t = active_notes w r old.core
 takes_notes strategies begun step.Clear r events old new known t = clear_notes r old.core
-takes_notes strategies begun (step.AtSlot slot x) r events old new known t = job_notes strategies (begun slot) x r events (old.jobs slot) (new.jobs slot) old.core new.core (known slot) t.0
+takes_notes strategies begun (step.AtSlot slot x) r events old new known t = job_notes strategies (begun slot).ids x r events (old.jobs slot) (new.jobs slot) old.core new.core (known slot) t.0
 takes_notes strategies begun x r events old new known t = refl
 
 -- ---- runs
 
 module _ (strategies : Strategies) (opened : List Entry) {F : Type 0} (world : F → World) where
   -- where at each place before the end the notes tell what is sealed
-  pub each_tells : (many : ℕ) (xs : List Call) (ts : List Told) (past : Past) (begun : ℕ → List ℕ) (old : Point F) (points : List (Point F)) → RanAlong world strategies xs ts old points → AreBegun begun old.stage.jobs
+  pub each_tells : (many : ℕ) (xs : List Call) (ts : List Told) (past : Past) (begun : ℕ → BegunFlush) (old : Point F) (points : List (Point F)) → RanAlong world strategies xs ts old points → AreBegun begun old.stage.jobs → AreMerged begun old.stage.jobs
       → ((k : ℕ) → k ≤ many → sealed_in (after_all opened past (take k (outcomes_of xs ts old points))).notes ≡ sealed_ids (last_of old (take k points)).stage.core)
-      → EachTells opened past begun (take many xs) (take many (outcomes_of xs ts old points))
-  each_tells zero xs ts past begun old points r known sealed = tt
-  each_tells (suc many) [] [] past begun old [] r known sealed = tt
-  each_tells (suc many) (x ∷ xs) (t ∷ ts) past begun old (mid ∷ points) r known sealed =
+      → EachTells (may_drop strategies) opened past begun (take many xs) (take many (outcomes_of xs ts old points))
+  each_tells zero xs ts past begun old points r known merged sealed = tt
+  each_tells (suc many) [] [] past begun old [] r known merged sealed = tt
+  each_tells (suc many) (x ∷ xs) (t ∷ ts) past begun old (mid ∷ points) r known merged sealed =
+      let ids = sealed_ids old.stage.core in
       let outcome = outcome_of x t old.stage in
       let next = after opened past outcome in
-      let here : sealed_in past.notes ≡ sealed_ids old.stage.core = sealed 0 (omega arith) in
-      let rest = each_tells many xs ts next (begun_after (sealed_ids old.stage.core) x t.reply begun) mid points r.2 (takes_begun strategies begun x t.reply t.entries old.stage mid.stage known r.0) (λ k low. sealed (suc k) (omega (low, arith))) in
+      let here : sealed_in past.notes ≡ ids = sealed 0 (omega arith) in
+      let known' = takes_begun strategies begun x t.reply t.entries old.stage mid.stage known r.0 in
+      let merged' = takes_merged strategies ids begun x t.reply t.entries old.stage mid.stage merged r.0 in
+      let rest = each_tells many xs ts next (begun_after ids x t.reply begun) mid points r.2 known' merged' (λ k low. sealed (suc k) (omega (low, arith))) in
       subst
-      (λ ids. Adds x t.reply t.entries × Notes ids begun x t.reply outcome.notes × EachTells opened next (begun_after ids x t.reply begun) (take many xs) (take many (outcomes_of xs ts mid points)))
+      (λ these. Adds (may_drop strategies) begun x t.reply t.entries × Notes these begun x t.reply outcome.notes × EachTells (may_drop strategies) opened next (begun_after these x t.reply begun) (take many xs) (take many (outcomes_of xs ts mid points)))
       (sym here)
-      (takes_adds strategies x t.reply t.entries old.stage mid.stage r.0, takes_notes strategies begun x t.reply t.entries old.stage mid.stage known r.0, rest)
-  each_tells (suc many) xs ts past begun old points r known sealed = absurd r
+      (takes_adds strategies begun x t.reply t.entries old.stage mid.stage merged r.0, takes_notes strategies begun x t.reply t.entries old.stage mid.stage known r.0, rest)
+  each_tells (suc many) xs ts past begun old points r known merged sealed = absurd r
 
 -- ---- journals of the first so many
 

@@ -13,6 +13,7 @@ use Rattle.lsm_manifest.specs.Ready.{IsReady, IsOldOrRead}
 use Rattle.lsm_manifest.proofs.ReadyOpened.{opening_leaves}
 use Rattle.lsm_manifest.proofs.Takes.{ImagesAreFirst}
 use Rattle.lsm_run_model.specs.Lives.{LeavesReady, Opening, ShowsOld}
+use Rattle.lsm_runs.specs.Dropping.{Drops}
 use Rattle.lsm_runs.specs.Lives.{OpeningsAreLives}
 use Rattle.lsm_runs.specs.Moments.{Reopens}
 
@@ -52,8 +53,8 @@ module _ {F : Type 0} (world : F → World) (first : ImagesAreFirst) (plain : Pl
     below = λ levels also. subst (λ ls. above (held (placed_of ls)) ≤ 2 ^ 63) (once b shows.stands.levels levels found also) (shows.below shows.stands.levels shows.stands.found);
   }
 
-  pub openings_are_lives : OpeningsAreLives world
-  openings_are_lives was is m end ready shows each left ends =
+  pub openings_are_lives : (May : Drops) → OpeningsAreLives May world
+  openings_are_lives May was is m end ready shows each left ends =
       let opening = opening_leaves first plain (world was) shows.stands.levels ready (one was) shows.stands.found (world is) left (counts is) in
       Opening is
       (weakened (world was) (world is) (IsOldOrRead (world was) shows.stands.levels) (ShowsOld (Reopens (2 ^ 63)) (world was)) opening.meanwhile (λ image at. ⊎_elim

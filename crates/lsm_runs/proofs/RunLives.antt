@@ -1,13 +1,17 @@
 -- A run on a tree as opening left it is a life.
-use Rattle.std.proofs.Common.{◌≡◌, ℕ, zero, suc, ◌+◌, ◌≤◌, ◌^◌, arith, List, [], ◌∷◌, map, take, length, ◌++◌, refl, sym, ap, subst, ◌∙◌, append-nil, append_assoc}
+use Rattle.std.proofs.Common.{◌≡◌, ℕ, zero, suc, ◌+◌, ◌≤◌, ◌^◌, max, arith, None, List, [], ◌∷◌, map, take, length, ◌++◌, refl, sym, ap, subst, ◌∙◌, append-nil, append_assoc}
 use Rattle.std.specs.List.{AllByRecursion}
 use Rattle.lsm_below.specs.Entries.{Entry, above}
 use Rattle.lsm_store.specs.World.{World}
 use Rattle.lsm_model.specs.Journal.{Map, InOrder}
-use Rattle.lsm_versions.specs.Levels.{Levels}
+use Rattle.lsm_model.specs.Soundness.{HoldsIsKept}
+use Rattle.lsm_model.specs.Steps.{IsOpened}
+use Rattle.lsm_model.specs.Views.{held}
+use Rattle.lsm_versions.specs.Levels.{Levels, placed_of}
 use Rattle.lsm_manifest.specs.Finding.{Finds}
 use Rattle.lsm_manifest.specs.Ready.{IsReady, OpeningLeaves}
-use Rattle.lsm_state.specs.Core.{Core}
+use Rattle.lsm_commit.specs.Stored.{IsStored}
+use Rattle.lsm_state.specs.Core.{Core, state_of, versions_left, written_of}
 use Rattle.lsm_run_model.specs.Outcomes.{Past, nothing, after, after_all, without_low_reads}
 use Rattle.lsm_run_model.specs.Rising.{At, Asks, RisesFrom, EachUses, StandsBelow, RisingIsInOrder, OrderWithoutReads}
 use Rattle.lsm_run_model.specs.Outcomes as out
@@ -15,19 +19,23 @@ use Rattle.lsm_run_model.specs.Moments.{EachMoment, last_of}
 use Rattle.lsm_run_model.specs.Lives.{LeavesReady}
 use Rattle.lsm_runs.specs.declared.steps.Step.{Step as Call}
 use Rattle.lsm_runs.specs.declared.steps.Reply.{Reply}
+use Rattle.lsm_runs.specs.After.{RunIsRight}
 use Rattle.lsm_runs.specs.Chains.{Point, RanAlong}
 use Rattle.lsm_runs.specs.Compacting.{Strategies}
 use Rattle.lsm_runs.specs.Drawing.{asks_of}
+use Rattle.lsm_runs.specs.Dropping.{Drops, allowed, may_drop}
 use Rattle.lsm_runs.specs.Lives.{StepsAreLives, Rise, LivesInOrder, told_of}
 use Rattle.lsm_runs.specs.Living.{RunsAreLives}
+use Rattle.lsm_runs.specs.OpenFlushes.{none_begun}
 use Rattle.lsm_runs.specs.Moments.{outcomes_of, EachReady, Reopens, RunHasMoments}
-use Rattle.lsm_runs.specs.Runs.{journal_of}
+use Rattle.lsm_runs.specs.Runs.{IsPlainUse, EachAnswers, journal_of}
 use Rattle.lsm_runs.specs.Told.{Told}
 use Rattle.lsm_run_model.proofs.LowReads.{without-append}
+use Rattle.lsm_runs.proofs.Allowing.{tells_grow}
 use Rattle.lsm_runs.proofs.Small.{IsSmall, numbered_front}
 use Rattle.lsm_runs.proofs.Uses.{drawings}
 
-map_take : {A B : Type 0} (f : A → B) (many : ℕ) (xs : List A) → map f (take many xs) ≡ take many (map f xs)
+pub map_take : {A B : Type 0} (f : A → B) (many : ℕ) (xs : List A) → map f (take many xs) ≡ take many (map f xs)
 map_take f zero xs = refl
 map_take f (suc many) [] = refl
 map_take f (suc many) (x ∷ xs) = ap (λ ys. f x ∷ ys) (map_take f many xs)
@@ -64,19 +72,20 @@ told_same world strategies (x ∷ xs) (t ∷ ts) old (mid ∷ points) r = ap (λ
 told_same world strategies xs ts old points r = absurd r
 
 pub runs_are_lives : {F : Type 0} (world : F → World) (strategies : Strategies) → RunsAreLives world strategies
-runs_are_lives {F} world strategies steps told old is new run opened start opens certain stored low many answered end plain order ends all =
+runs_are_lives {F} world strategies may allows steps told old is new run opened start opens certain stored low many answered end plain order ends all =
     let stands = run.begins opened start opens certain stored in
     let every : List F = map (λ p. p.store) run.points in
     let stores = take many every in
     let few = length_front many every in
     let whole : List (out.Told Reply) = outcomes_of steps told old run.points in
     let outcomes : List (out.Told Reply) = take many whole in
+    let tells = tells_grow (may_drop strategies) (allowed may) allows opened nothing none_begun (take many steps) outcomes (run.tells opened start nothing many plain stands order) in
     let numbered = numbered_front opened many whole low (subst (AllByRecursion IsSmall) (sym (journal_same world strategies steps told old run.points run.ran)) run.small) in
     record {
       life = record {
         opened = opened;
         told = outcomes;
-        known = record { starts = opens.starts; steps = take many steps; plain = plain; tells = run.tells opened start nothing many plain stands order; order = order };
+        known = record { starts = opens.starts; steps = take many steps; plain = plain; tells = tells; order = order };
         first = old.store;
         stores = stores;
         moments = subst (λ (ss : List F). EachMoment (Reopens (2 ^ 63)) world opened start nothing outcomes old.store ss) (map_take (λ (p : Point F). p.store) many run.points) ((run.moments opened start nothing many plain stands order).0 (2 ^ 63) numbered);
@@ -103,7 +112,7 @@ uses_front (suc many) (call ∷ calls) (o ∷ outcomes) old (new ∷ counters) u
 uses_front (suc many) calls outcomes old counters u = absurd u
 
 module _ (opened : List Entry) where
-  journal_after : (outcomes : List (out.Told Reply)) (past : Past) → (after_all opened past outcomes).journal ≡ past.journal ++ without_low_reads opened (out.journal_of outcomes)
+  pub journal_after : (outcomes : List (out.Told Reply)) (past : Past) → (after_all opened past outcomes).journal ≡ past.journal ++ without_low_reads opened (out.journal_of outcomes)
   journal_after [] past = sym (append-nil past.journal)
   journal_after (o ∷ outcomes) past =
       journal_after outcomes (after opened past o) ∙ append_assoc past.journal (without_low_reads opened o.entries) (without_low_reads opened (out.journal_of outcomes))
@@ -119,21 +128,42 @@ module _ (opened : List Entry) where
       let stays = rising opened [] (map asks_of front) (take many outcomes) counter (above opened) (At counter) [] (take many counters) none refl numbers rise.weak mine in
       subst (InOrder opened) (sym (journal_after (take many outcomes) nothing)) ((without.order opened (out.journal_of (take many outcomes))).0 stays.order)
 
+-- ---- the answers of the first so many
+
+pub outcomes_journal : (outcomes : List (out.Told Reply)) → out.journal_of outcomes ≡ journal_of (map told_of outcomes)
+outcomes_journal [] = refl
+outcomes_journal (o ∷ outcomes) = ap (λ es. o.entries ++ es) (outcomes_journal outcomes)
+
+pub front_answers : HoldsIsKept → OrderWithoutReads → (strategies : Strategies) (opened : List Entry) (start : Map) (steps : List Call) (told : List Told) (old new : Core) → RunIsRight strategies steps told old new → IsOpened opened start (state_of [] old) → (outcomes : List (out.Told Reply)) → map told_of outcomes ≡ told
+    → (many : ℕ) → IsPlainUse (take many steps) → InOrder opened (after_all opened nothing (take many outcomes)).journal → EachAnswers opened start [] (take many steps) (take many told)
+front_answers kept without strategies opened start steps told old new right opens outcomes replies many plain order =
+    let front : List (out.Told Reply) = take many outcomes in
+    let whole : InOrder opened (out.journal_of front) = (without.order opened (out.journal_of front)).1 (subst (InOrder opened) (journal_after opened front nothing) order) in
+    let same : out.journal_of front ≡ journal_of (take many told) = outcomes_journal front ∙ ap (λ ts. journal_of ts) (map_take told_of many outcomes ∙ ap (λ ts. take many ts) replies) in
+    (right.answers many opened start [] plain (kept.opened opened start (state_of [] old) opens) (subst (InOrder opened) same whole)).0
+
 -- a tree that was opened over this store, and took these steps
-pub lived : {F : Type 0} (world : F → World) (strategies : Strategies) (was : F) (opened : List Entry) (start : Map) (steps : List Call) (told : List Told) (old : Point F) (is : F) (new : Core) (run : RunHasMoments world strategies steps told old is new)
-    → ((tables : Levels) → Finds (world was).gives tables → OpeningLeaves (world was) (world old.store) tables) → StepsAreLives world opened start steps (outcomes_of steps told old run.points) old.store (map (λ p. p.store) run.points) → RisingIsInOrder Reply → OrderWithoutReads → above opened ≤ old.stage.core.seqno → LivesInOrder world start steps told was is
-lived world strategies was opened start steps told old is new run opening lives rising without low = record {
-  opened = opened;
-  outcomes = outcomes_of steps told old run.points;
-  replies = told_same world strategies steps told old run.points run.ran;
-  life = record {
-    first = old.store;
-    stores = map (λ p. p.store) run.points;
-    ends = stores_end old run.points ∙ run.ends;
-    opening = opening;
-    lives = lives;
-  };
-  counter = old.stage.core.seqno;
-  above_found = low;
-  in_order = front_in_order opened rising without steps (outcomes_of steps told old run.points) old.stage.core.seqno (map (λ p. p.stage.core.seqno) run.points) low run.uses;
-}
+pub lived : {F : Type 0} (May : Drops) (world : F → World) (strategies : Strategies) (was : F) (from : ℕ) (opened : List Entry) (start : Map) (steps : List Call) (told : List Told) (old : Point F) (is : F) (new : Core) (run : RunHasMoments world strategies steps told old is new)
+    → ((levels : Levels) → Finds (world was).gives levels → opened ≡ held (placed_of levels)) → ((tables : Levels) → Finds (world was).gives tables → OpeningLeaves (world was) (world old.store) tables)
+    → StepsAreLives May world opened start steps (outcomes_of steps told old run.points) old.store (map (λ p. p.store) run.points) → RisingIsInOrder Reply → OrderWithoutReads → HoldsIsKept → old.stage.core.seqno ≡ max from (above opened)
+    → RunIsRight strategies steps told old.stage.core new → IsOpened opened start (state_of [] old.stage.core) → old.stage.core.lost ≡ None → IsStored (world old.store) (versions_left old.stage.core) (written_of old.stage.core) → LivesInOrder May world from start steps told was is
+lived {F} May world strategies was from opened start steps told old is new run found opening lives rising without kept starts right opens certain stored =
+    let outcomes : List (out.Told Reply) = outcomes_of steps told old run.points in
+    let replies = told_same world strategies steps told old run.points run.ran in
+    let low : above opened ≤ old.stage.core.seqno = let at = starts in omega (at, arith) in
+    record {
+      opened = opened;
+      found = found;
+      outcomes = outcomes;
+      replies = replies;
+      life = record { first = old.store; stores = map (λ p. p.store) run.points; ends = stores_end old run.points ∙ run.ends; opening = opening; lives = lives };
+      counter = old.stage.core.seqno;
+      starts = starts;
+      counters = map (λ p. p.stage.core.seqno) run.points;
+      uses = run.uses;
+      in_order = front_in_order opened rising without steps outcomes old.stage.core.seqno (map (λ p. p.stage.core.seqno) run.points) low run.uses;
+      answers = front_answers kept without strategies opened start steps told old.stage.core new right opens outcomes replies;
+      leaves = λ many plain order n numbered.
+          subst (λ (ss : List F). EachMoment (Reopens n) world opened start nothing (take many outcomes) old.store ss) (map_take (λ (p : Point F). p.store) many run.points)
+          ((run.moments opened start nothing many plain (run.begins opened start opens certain stored) order).0 n numbered);
+    }

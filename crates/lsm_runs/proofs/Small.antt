@@ -30,12 +30,15 @@ use Rattle.lsm_runs.specs.declared.steps.Reply.{Reply}
 use Rattle.lsm_runs.specs.declared.steps.Reply.TheVariants as reply
 use Rattle.lsm_runs.specs.declared.steps.Step.{Step as Call}
 use Rattle.lsm_runs.specs.declared.steps.Step.TheVariants as step
-use Rattle.lsm_runs.specs.Adds.{AddsGet, AddsPairs, AddsClear, AnyRanges, NoRanges, RangesWithin, IsUpkeepOrDrop, JobAdds}
+use Rattle.lsm_runs.specs.Adds.{AddsGet, AddsPairs, AddsClear, NoRanges, RangesWithin, IsUpkeepOrDrop, JobAdds}
 use Rattle.lsm_runs.specs.Compacting.{Strategies}
+use Rattle.lsm_runs.specs.Dropping.{Drops, may_drop}
+use Rattle.lsm_runs.specs.OpenFlushes.{BegunFlush}
 use Rattle.lsm_runs.specs.Runs.{Takes, TakesEntry, TakesBatch, Ran, RanToEnd, journal_of}
 use Rattle.lsm_runs.specs.Slots.{Stage, at_first}
 use Rattle.lsm_runs.specs.Told.{Told}
-use Rattle.lsm_runs.proofs.Adds.{takes_adds}
+use Rattle.lsm_runs.proofs.Adds.{takes_add_some}
+use Rattle.lsm_runs.proofs.Merged.{merged_in}
 
 -- what is written, is numbered so
 abbrev pub IsSmall : Event → Type 0
@@ -113,11 +116,11 @@ clear_small : (r : Reply) (events : List Event) → AddsClear r events → AllBy
 clear_small (reply.Cleared n) events h = subst (AllByRecursion IsSmall) (sym h) (tt, tt)
 clear_small r events h = nothing_small events h
 
-job_small : (x : JobStep) (events : List Event) → JobAdds x events → AllByRecursion IsSmall events
-job_small job.RegisterTables events h = upkeeps_small (λ v. Unit {0}) NoRanges events h
-job_small (job.BeginCompaction at o) events h = upkeeps_small (λ v. v ≡ o.mvcc_gc_watermark) AnyRanges events h
-job_small job.FinishCompaction events h = upkeeps_small (λ v. ⊥) NoRanges events h
-job_small x events h = nothing_small events h
+job_small : (May : Drops) (flush : BegunFlush) (x : JobStep) (events : List Event) → JobAdds May flush x events → AllByRecursion IsSmall events
+job_small May flush job.RegisterTables events h = upkeeps_small (λ v. v ≡ flush.watermark) NoRanges events h
+job_small May flush (job.BeginCompaction at o) events h = upkeeps_small (λ v. v ≡ o.mvcc_gc_watermark) (May at) events h
+job_small May flush job.FinishCompaction events h = upkeeps_small (λ v. ⊥) NoRanges events h
+job_small May flush x events h = nothing_small events h
 
 pub takes_small : (strategies : Strategies) (x : Call) (r : Reply) (events : List Event) (old new : Stage) → Takes strategies x r events old new → AllByRecursion IsSmall events
 takes_small strategies (step.Insert k v n) r events old new t = entry_small (op_entry k n (SetTo v)) r events old.core new.core t.0
@@ -125,19 +128,19 @@ takes_small strategies (step.Remove k n) r events old new t = entry_small (op_en
 takes_small strategies (step.RemoveWeak k n) r events old new t = entry_small (op_entry k n Weak) r events old.core new.core t.0
 takes_small strategies (step.AppendEntry e) r events old new t = entry_small (plain e) r events old.core new.core t.0
 takes_small strategies (step.Write ops) r events old new t = batch_small ops r events old.core new.core t.0
-takes_small strategies (step.Get k s) r events old new t = get_small k s r events (takes_adds strategies (step.Get k s) r events old new t)
-takes_small strategies (step.Range low high s) r events old new t = pairs_small _ s r events (takes_adds strategies (step.Range low high s) r events old new t)
-takes_small strategies (step.Iter s) r events old new t = pairs_small _ s r events (takes_adds strategies (step.Iter s) r events old new t)
-takes_small strategies (step.Prefix p s) r events old new t = pairs_small _ s r events (takes_adds strategies (step.Prefix p s) r events old new t)
-takes_small strategies step.Clear r events old new t = clear_small r events (takes_adds strategies step.Clear r events old new t)
-takes_small strategies (step.Flush w) r events old new t = upkeeps_small (λ v. v ≡ w) NoRanges events (takes_adds strategies (step.Flush w) r events old new t)
-takes_small strategies (step.FlushActiveMemtable w) r events old new t = upkeeps_small (λ v. v ≡ w) NoRanges events (takes_adds strategies (step.FlushActiveMemtable w) r events old new t)
-takes_small strategies (step.Compact at w) r events old new t = upkeeps_small (λ v. v ≡ w) AnyRanges events (takes_adds strategies (step.Compact at w) r events old new t)
-takes_small strategies (step.DoCompaction at o) r events old new t = upkeeps_small (λ v. v ≡ o.mvcc_gc_watermark) AnyRanges events (takes_adds strategies (step.DoCompaction at o) r events old new t)
-takes_small strategies (step.MajorCompact target w) r events old new t = upkeeps_small (λ v. v ≡ w) NoRanges events (takes_adds strategies (step.MajorCompact target w) r events old new t)
-takes_small strategies (step.DropRange low high) r events old new t = upkeeps_small (λ v. v ≡ 0) (RangesWithin low high) events (takes_adds strategies (step.DropRange low high) r events old new t)
-takes_small strategies (step.AtSlot slot x) r events old new t = job_small x events (takes_adds strategies (step.AtSlot slot x) r events old new t)
-takes_small strategies x r events old new t = nothing_small events (takes_adds strategies x r events old new t)
+takes_small strategies (step.Get k s) r events old new t = get_small k s r events (takes_add_some strategies (step.Get k s) r events old new t)
+takes_small strategies (step.Range low high s) r events old new t = pairs_small _ s r events (takes_add_some strategies (step.Range low high s) r events old new t)
+takes_small strategies (step.Iter s) r events old new t = pairs_small _ s r events (takes_add_some strategies (step.Iter s) r events old new t)
+takes_small strategies (step.Prefix p s) r events old new t = pairs_small _ s r events (takes_add_some strategies (step.Prefix p s) r events old new t)
+takes_small strategies step.Clear r events old new t = clear_small r events (takes_add_some strategies step.Clear r events old new t)
+takes_small strategies (step.Flush w) r events old new t = upkeeps_small (λ v. v ≡ w) NoRanges events (takes_add_some strategies (step.Flush w) r events old new t)
+takes_small strategies (step.FlushActiveMemtable w) r events old new t = upkeeps_small (λ v. v ≡ w) NoRanges events (takes_add_some strategies (step.FlushActiveMemtable w) r events old new t)
+takes_small strategies (step.Compact at w) r events old new t = upkeeps_small (λ v. v ≡ w) (may_drop strategies at) events (takes_add_some strategies (step.Compact at w) r events old new t)
+takes_small strategies (step.DoCompaction at o) r events old new t = upkeeps_small (λ v. v ≡ o.mvcc_gc_watermark) (may_drop strategies at) events (takes_add_some strategies (step.DoCompaction at o) r events old new t)
+takes_small strategies (step.MajorCompact target w) r events old new t = upkeeps_small (λ v. v ≡ w) NoRanges events (takes_add_some strategies (step.MajorCompact target w) r events old new t)
+takes_small strategies (step.DropRange low high) r events old new t = upkeeps_small (λ v. v ≡ 0) (RangesWithin low high) events (takes_add_some strategies (step.DropRange low high) r events old new t)
+takes_small strategies (step.AtSlot slot x) r events old new t = job_small (may_drop strategies) (merged_in old.jobs slot) x events (takes_add_some strategies (step.AtSlot slot x) r events old new t)
+takes_small strategies x r events old new t = nothing_small events (takes_add_some strategies x r events old new t)
 
 run_small_from : (strategies : Strategies) (xs : List Call) (ts : List Told) (old new : Stage) → Ran strategies xs ts old new → AllByRecursion IsSmall (journal_of ts)
 run_small_from strategies [] [] old new r = tt

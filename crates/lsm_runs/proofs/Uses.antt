@@ -26,14 +26,17 @@ use Rattle.lsm_runs.specs.declared.steps.Reply.{Reply}
 use Rattle.lsm_runs.specs.declared.steps.Reply.TheVariants as reply
 use Rattle.lsm_runs.specs.declared.steps.Step.{Step as Call}
 use Rattle.lsm_runs.specs.declared.steps.Step.TheVariants as step
-use Rattle.lsm_runs.specs.Adds.{AddsEntry, AddsBatch, AddsGet, AddsPairs, AddsClear, AnyRanges, NoRanges, RangesWithin, IsUpkeepOrDrop, JobAdds, Adds}
+use Rattle.lsm_runs.specs.Adds.{AddsEntry, AddsBatch, AddsGet, AddsPairs, AddsClear, NoRanges, RangesWithin, IsUpkeepOrDrop, JobAdds, Adds}
 use Rattle.lsm_runs.specs.Compacting.{Strategies}
 use Rattle.lsm_runs.specs.Drawing.{job_drawing, drawing_of, set_by, weak_by, sets_in, weaks_in, asks_of, plainly, RunUses, RunRises}
+use Rattle.lsm_runs.specs.Dropping.{Drops, may_drop}
 use Rattle.lsm_runs.specs.JobSteps.{TakesJob}
+use Rattle.lsm_runs.specs.OpenFlushes.{BegunFlush}
 use Rattle.lsm_runs.specs.Runs.{Takes, TakesAlone, Ran, RanToEnd, journal_of}
 use Rattle.lsm_runs.specs.Slots.{Stage, at_first}
 use Rattle.lsm_runs.specs.Told.{Told}
-use Rattle.lsm_runs.proofs.Adds.{takes_adds}
+use Rattle.lsm_runs.proofs.Adds.{takes_add_some}
+use Rattle.lsm_runs.proofs.Merged.{merged_in}
 use Rattle.lsm_runs.proofs.Committing.{flush_numbers, active_numbers, register_numbers, clear_numbers, from_numbers, compact_numbers, range_numbers, begin_compaction_numbers, finish_numbers}
 use Rattle.lsm_runs.proofs.Drawing.{still, entry_numbers, batch_numbers, get_numbers, get_entry_numbers, pairs_numbers, rotate_numbers, next_reserves, next_visible, put_raises, put_visible, table_id_numbers, moment_numbers, forget_numbers, begin_numbers, run_numbers, tables_numbers, abandon_numbers, run_compaction_numbers, abandon_compaction_numbers}
 
@@ -166,31 +169,31 @@ clear_among : (r : Reply) (events : List Event) → AddsClear r events → AreAm
 clear_among (reply.Cleared n) events a = by_told [] [] events _ a (tt, tt)
 clear_among r events a = none_among [] [] events a
 
-job_among : (x : JobStep) (events : List Event) → JobAdds x events → AreAmong [] [] events
-job_among job.RegisterTables events a = upkeep_among (λ v. Unit {0}) NoRanges [] [] events a
-job_among (job.BeginCompaction at o) events a = upkeep_among (λ v. v ≡ o.mvcc_gc_watermark) AnyRanges [] [] events a
-job_among job.FinishCompaction events a = upkeep_among (λ v. ⊥) NoRanges [] [] events a
-job_among x events a = none_among [] [] events a
+job_among : (May : Drops) (flush : BegunFlush) (x : JobStep) (events : List Event) → JobAdds May flush x events → AreAmong [] [] events
+job_among May flush job.RegisterTables events a = upkeep_among (λ v. v ≡ flush.watermark) NoRanges [] [] events a
+job_among May flush (job.BeginCompaction at o) events a = upkeep_among (λ v. v ≡ o.mvcc_gc_watermark) (May at) [] [] events a
+job_among May flush job.FinishCompaction events a = upkeep_among (λ v. ⊥) NoRanges [] [] events a
+job_among May flush x events a = none_among [] [] events a
 
-pub adds_keys : (x : Call) (r : Reply) (events : List Event) → Adds x r events → UsesKeys (asks_of x) events
-adds_keys (step.Insert k v n) r events a = entry_among (op_entry k n (SetTo v)) (k ∷ []) [] r events (by_kind k n Value v) a
-adds_keys (step.Remove k n) r events a = entry_among (op_entry k n Del) [] [] r events (by_kind k n Tombstone []) a
-adds_keys (step.RemoveWeak k n) r events a = entry_among (op_entry k n Weak) [] (k ∷ []) r events (by_kind k n WeakTombstone []) a
-adds_keys (step.AppendEntry e) r events a = entry_among (plain e) (set_by e.key.user_key e.key.value_type) (weak_by e.key.user_key e.key.value_type) r events (by_kind e.key.user_key e.key.seqno e.key.value_type (plain e).value) a
-adds_keys (step.Write ops) r events a = batch_among ops r events a
-adds_keys (step.Get k s) r events a = get_among k s r events a
-adds_keys (step.Range low high s) r events a = pairs_among _ s r events a
-adds_keys (step.Iter s) r events a = pairs_among _ s r events a
-adds_keys (step.Prefix p s) r events a = pairs_among _ s r events a
-adds_keys step.Clear r events a = clear_among r events a
-adds_keys (step.Flush w) r events a = upkeep_among (λ v. v ≡ w) NoRanges [] [] events a
-adds_keys (step.FlushActiveMemtable w) r events a = upkeep_among (λ v. v ≡ w) NoRanges [] [] events a
-adds_keys (step.Compact at w) r events a = upkeep_among (λ v. v ≡ w) AnyRanges [] [] events a
-adds_keys (step.DoCompaction at o) r events a = upkeep_among (λ v. v ≡ o.mvcc_gc_watermark) AnyRanges [] [] events a
-adds_keys (step.MajorCompact target w) r events a = upkeep_among (λ v. v ≡ w) NoRanges [] [] events a
-adds_keys (step.DropRange low high) r events a = upkeep_among (λ v. v ≡ 0) (RangesWithin low high) [] [] events a
-adds_keys (step.AtSlot slot x) r events a = job_among x events a
-adds_keys x r events a = none_among [] [] events a
+pub adds_keys : (May : Drops) (begun : ℕ → BegunFlush) (x : Call) (r : Reply) (events : List Event) → Adds May begun x r events → UsesKeys (asks_of x) events
+adds_keys May begun (step.Insert k v n) r events a = entry_among (op_entry k n (SetTo v)) (k ∷ []) [] r events (by_kind k n Value v) a
+adds_keys May begun (step.Remove k n) r events a = entry_among (op_entry k n Del) [] [] r events (by_kind k n Tombstone []) a
+adds_keys May begun (step.RemoveWeak k n) r events a = entry_among (op_entry k n Weak) [] (k ∷ []) r events (by_kind k n WeakTombstone []) a
+adds_keys May begun (step.AppendEntry e) r events a = entry_among (plain e) (set_by e.key.user_key e.key.value_type) (weak_by e.key.user_key e.key.value_type) r events (by_kind e.key.user_key e.key.seqno e.key.value_type (plain e).value) a
+adds_keys May begun (step.Write ops) r events a = batch_among ops r events a
+adds_keys May begun (step.Get k s) r events a = get_among k s r events a
+adds_keys May begun (step.Range low high s) r events a = pairs_among _ s r events a
+adds_keys May begun (step.Iter s) r events a = pairs_among _ s r events a
+adds_keys May begun (step.Prefix p s) r events a = pairs_among _ s r events a
+adds_keys May begun step.Clear r events a = clear_among r events a
+adds_keys May begun (step.Flush w) r events a = upkeep_among (λ v. v ≡ w) NoRanges [] [] events a
+adds_keys May begun (step.FlushActiveMemtable w) r events a = upkeep_among (λ v. v ≡ w) NoRanges [] [] events a
+adds_keys May begun (step.Compact at w) r events a = upkeep_among (λ v. v ≡ w) (May at) [] [] events a
+adds_keys May begun (step.DoCompaction at o) r events a = upkeep_among (λ v. v ≡ o.mvcc_gc_watermark) (May at) [] [] events a
+adds_keys May begun (step.MajorCompact target w) r events a = upkeep_among (λ v. v ≡ w) NoRanges [] [] events a
+adds_keys May begun (step.DropRange low high) r events a = upkeep_among (λ v. v ≡ 0) (RangesWithin low high) [] [] events a
+adds_keys May begun (step.AtSlot slot x) r events a = job_among May (begun slot) x events a
+adds_keys May begun x r events a = none_among [] [] events a
 
 -- ---- runs
 
@@ -200,7 +203,7 @@ ran_uses strategies [] (t ∷ ts) old new r = absurd r
 ran_uses strategies (x ∷ xs) [] old new r = absurd r
 ran_uses strategies (x ∷ xs) (t ∷ ts) old new r =
     let rest = ran_uses strategies xs ts r.0 new r.2 in
-    (r.0.core.seqno ∷ rest.0, (takes_numbers strategies x t.reply t.entries old r.0 r.1, adds_keys x t.reply t.entries (takes_adds strategies x t.reply t.entries old r.0 r.1), rest.1))
+    (r.0.core.seqno ∷ rest.0, (takes_numbers strategies x t.reply t.entries old r.0 r.1, adds_keys (may_drop strategies) (merged_in old.jobs) x t.reply t.entries (takes_add_some strategies x t.reply t.entries old r.0 r.1), rest.1))
 
 pub run_uses : (strategies : Strategies) (xs : List Call) (ts : List Told) (old new : Core) → RanToEnd strategies xs ts old new → RunUses xs ts old
 run_uses strategies xs ts old new r = let u = ran_uses strategies xs ts (at_first old) r.0 r.1 in record { counters = u.0; uses = u.1 }

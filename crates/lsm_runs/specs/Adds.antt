@@ -21,6 +21,8 @@ use Rattle.lsm_runs.specs.declared.steps.Step.{Step}
 use Rattle.lsm_runs.specs.declared.steps.Step.TheVariants.{Insert, Remove, RemoveWeak, AppendEntry, Write, Get, Range, Iter, Prefix, AtSlot, Flush, FlushActiveMemtable, Compact, DoCompaction, MajorCompact, DropRange, Clear}
 use Rattle.lsm_runs.specs.declared.steps.Reply.{Reply}
 use Rattle.lsm_runs.specs.declared.steps.Reply.TheVariants.{Sizes, Number, Value, Pairs, Cleared}
+use Rattle.lsm_runs.specs.Dropping.{Drops}
+use Rattle.lsm_runs.specs.OpenFlushes.{BegunFlush, begun_after}
 use Rattle.lsm_runs.specs.Told.{Told}
 
 -- ---- by kinds
@@ -49,10 +51,7 @@ abbrev pub AddsClear : Reply → List Event → Type 0
 AddsClear (Cleared n) events = events ≡ DidClear n ∷ []
 AddsClear reply events = events ≡ []
 
--- which ranges may be dropped: any, none, or those of which each key is at or after the start of bounds, and at or before their end
-abbrev pub AnyRanges : List Keys → Type 0
-AnyRanges ranges = Unit {0}
-
+-- which ranges may be dropped: none, or those of which each key is at or after the start of bounds, and at or before their end
 abbrev pub NoRanges : List Keys → Type 0
 NoRanges ranges = ⊥
 
@@ -74,36 +73,37 @@ IsUpkeep Of = IsUpkeepOrDrop Of NoRanges
 
 -- ---- by steps
 
-abbrev pub JobAdds : JobStep → List Event → Type 0
-JobAdds RegisterTables events = AllByRecursion (IsUpkeep (λ v. Unit {0})) events
-JobAdds (BeginCompaction at o) events = AllByRecursion (IsUpkeepOrDrop (λ v. v ≡ o.mvcc_gc_watermark) AnyRanges) events
-JobAdds FinishCompaction events = AllByRecursion (IsUpkeep (λ v. ⊥)) events
-JobAdds step events = events ≡ []
+-- a registration marks the watermark at which the flush of its slot was merged
+abbrev pub JobAdds : Drops → BegunFlush → JobStep → List Event → Type 0
+JobAdds May flush RegisterTables events = AllByRecursion (IsUpkeep (λ v. v ≡ flush.watermark)) events
+JobAdds May flush (BeginCompaction at o) events = AllByRecursion (IsUpkeepOrDrop (λ v. v ≡ o.mvcc_gc_watermark) (May at)) events
+JobAdds May flush FinishCompaction events = AllByRecursion (IsUpkeep (λ v. ⊥)) events
+JobAdds May flush step events = events ≡ []
 
--- a step marks the watermark that it names, a drop of a range 0. A strategy of the caller's may drop any tables, a merge of all
--- tables drops none, and a drop of a range only tables within it. All steps that aren't named add nothing
-abbrev pub Adds : Step → Reply → List Event → Type 0
-Adds (Insert k v n) reply events = AddsEntry (op_entry k n (SetTo v)) reply events
-Adds (Remove k n) reply events = AddsEntry (op_entry k n Del) reply events
-Adds (RemoveWeak k n) reply events = AddsEntry (op_entry k n Weak) reply events
-Adds (AppendEntry e) reply events = AddsEntry (plain e) reply events
-Adds (Write ops) reply events = AddsBatch ops reply events
-Adds (Get k s) reply events = AddsGet k s reply events
-Adds (Range low high s) reply events = AddsPairs (Between low high) s reply events
-Adds (Iter s) reply events = AddsPairs (Between Unbounded Unbounded) s reply events
-Adds (Prefix p s) reply events = AddsPairs (AskPrefix p) s reply events
-Adds Clear reply events = AddsClear reply events
-Adds (Flush w) reply events = AllByRecursion (IsUpkeep (λ v. v ≡ w)) events
-Adds (FlushActiveMemtable w) reply events = AllByRecursion (IsUpkeep (λ v. v ≡ w)) events
-Adds (Compact at w) reply events = AllByRecursion (IsUpkeepOrDrop (λ v. v ≡ w) AnyRanges) events
-Adds (DoCompaction at o) reply events = AllByRecursion (IsUpkeepOrDrop (λ v. v ≡ o.mvcc_gc_watermark) AnyRanges) events
-Adds (MajorCompact target w) reply events = AllByRecursion (IsUpkeep (λ v. v ≡ w)) events
-Adds (DropRange low high) reply events = AllByRecursion (IsUpkeepOrDrop (λ v. v ≡ 0) (RangesWithin low high)) events
-Adds (AtSlot slot step) reply events = JobAdds step events
-Adds step reply events = events ≡ []
+-- a step marks the watermark that it names, a drop of a range 0. A strategy of the caller's drops what it may, a merge of all tables
+-- nothing, and a drop of a range only tables within it. All steps that aren't named add nothing
+abbrev pub Adds : Drops → (ℕ → BegunFlush) → Step → Reply → List Event → Type 0
+Adds May begun (Insert k v n) reply events = AddsEntry (op_entry k n (SetTo v)) reply events
+Adds May begun (Remove k n) reply events = AddsEntry (op_entry k n Del) reply events
+Adds May begun (RemoveWeak k n) reply events = AddsEntry (op_entry k n Weak) reply events
+Adds May begun (AppendEntry e) reply events = AddsEntry (plain e) reply events
+Adds May begun (Write ops) reply events = AddsBatch ops reply events
+Adds May begun (Get k s) reply events = AddsGet k s reply events
+Adds May begun (Range low high s) reply events = AddsPairs (Between low high) s reply events
+Adds May begun (Iter s) reply events = AddsPairs (Between Unbounded Unbounded) s reply events
+Adds May begun (Prefix p s) reply events = AddsPairs (AskPrefix p) s reply events
+Adds May begun Clear reply events = AddsClear reply events
+Adds May begun (Flush w) reply events = AllByRecursion (IsUpkeep (λ v. v ≡ w)) events
+Adds May begun (FlushActiveMemtable w) reply events = AllByRecursion (IsUpkeep (λ v. v ≡ w)) events
+Adds May begun (Compact at w) reply events = AllByRecursion (IsUpkeepOrDrop (λ v. v ≡ w) (May at)) events
+Adds May begun (DoCompaction at o) reply events = AllByRecursion (IsUpkeepOrDrop (λ v. v ≡ o.mvcc_gc_watermark) (May at)) events
+Adds May begun (MajorCompact target w) reply events = AllByRecursion (IsUpkeep (λ v. v ≡ w)) events
+Adds May begun (DropRange low high) reply events = AllByRecursion (IsUpkeepOrDrop (λ v. v ≡ 0) (RangesWithin low high)) events
+Adds May begun (AtSlot slot step) reply events = JobAdds May (begun slot) step events
+Adds May begun step reply events = events ≡ []
 
--- so each outcome of a run does
-abbrev pub EachAdds : List Step → List Told → Type 0
-EachAdds [] [] = Unit {0}
-EachAdds (x ∷ xs) (t ∷ ts) = Adds x t.reply t.entries × EachAdds xs ts
-EachAdds xs ts = ⊥
+-- so each outcome of a run does, whatever memtables its flushes are of
+abbrev pub EachAdds : Drops → (ℕ → BegunFlush) → List Step → List Told → Type 0
+EachAdds May begun [] [] = Unit {0}
+EachAdds May begun (x ∷ xs) (t ∷ ts) = Adds May begun x t.reply t.entries × ((sealed : List ℕ) → EachAdds May (begun_after sealed x t.reply begun) xs ts)
+EachAdds May begun xs ts = ⊥

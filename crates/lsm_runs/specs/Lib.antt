@@ -4,6 +4,8 @@ pub mod ReadSteps
 pub mod CountSteps
 pub mod Flushing
 pub mod Compacting
+pub mod Dropping
+pub mod OpenFlushes
 pub mod Clearing
 pub mod JobSteps
 pub mod Causes

@@ -17,6 +17,7 @@ use Rattle.lsm_runs.specs.Chains.{Point}
 use Rattle.lsm_runs.specs.Compacting.{Strategies}
 use Rattle.lsm_runs.specs.Counting.{RunIsInOrder}
 use Rattle.lsm_runs.specs.Drawing.{RunRises}
+use Rattle.lsm_runs.specs.Dropping.{Allowance, AllowsDrops, allowed}
 use Rattle.lsm_runs.specs.Lives.{StepsAreLives}
 use Rattle.lsm_runs.specs.Moments.{outcomes_of, RunHasMoments}
 use Rattle.lsm_runs.specs.Runs.{RanToEnd, RunEqualsReplay}
@@ -58,8 +59,10 @@ pub record LivesOn {F : Type 0} (world : F → World) (strategies : Strategies) 
   -- what stands at each moment, and how calls go on
   pub moments : RunHasMoments world strategies steps told (record { store = first; stage = at_first old }) is new
 
--- A run on a tree as opening left it, over a store that holds its files, where what was opened is numbered below 2^63, is a life.
+-- A run on a tree as opening left it, over a store that holds its files, where what was opened is numbered below 2^63,
+-- is a life, whatever allows what its strategies may drop.
 abbrev pub RunsAreLives : {F : Type 0} → (F → World) → Strategies → Type 0
-RunsAreLives {F} world strategies = (steps : List Step) (told : List Told) (old : Point F) (is : F) (new : Core) (run : RunHasMoments world strategies steps told old is new) (opened : List Entry) (start : Map)
+RunsAreLives {F} world strategies = (may : Allowance) → AllowsDrops (allowed may) strategies
+    → (steps : List Step) (told : List Told) (old : Point F) (is : F) (new : Core) (run : RunHasMoments world strategies steps told old is new) (opened : List Entry) (start : Map)
     → IsOpened opened start (state_of [] old.stage.core) → old.stage.core.lost ≡ None → IsStored (world old.store) (versions_left old.stage.core) (written_of old.stage.core)
-    → above opened ≤ 2 ^ 63 → StepsAreLives world opened start steps (outcomes_of steps told old run.points) old.store (map (λ p. p.store) run.points)
+    → above opened ≤ 2 ^ 63 → StepsAreLives (allowed may) world opened start steps (outcomes_of steps told old run.points) old.store (map (λ p. p.store) run.points)

@@ -34,8 +34,10 @@ use Rattle.lsm_runs.specs.declared.steps.Reply.TheVariants.{Sealed, Registered, 
 use Rattle.lsm_runs.specs.Compacting.{Strategies}
 use Rattle.lsm_runs.specs.Chains.{Point, RanAlong}
 use Rattle.lsm_runs.specs.Drawing.{asks_of}
-use Rattle.lsm_runs.specs.Notes.{sealed_noted, flushed_noted, none_begun, EachTells}
+use Rattle.lsm_runs.specs.Dropping.{Drops, may_drop}
+use Rattle.lsm_runs.specs.Notes.{sealed_noted, flushed_noted, EachTells}
 use Rattle.lsm_runs.specs.Noting.{sealed_behind, ids_in}
+use Rattle.lsm_runs.specs.OpenFlushes.{none_begun}
 use Rattle.lsm_runs.specs.Runs.{IsPlainUse, journal_of}
 use Rattle.lsm_runs.specs.Slots.{Stage, Closes}
 use Rattle.lsm_runs.specs.Told.{Told}
@@ -127,11 +129,11 @@ GoesOn world opened start past steps told old points is new =
     IsPlainUse steps → StandsAfter world opened start past old.store old.stage.core → InOrder opened all.journal → StandsAfter world opened start all is new
 
 -- And what the first so many steps tell follows from their kinds and replies, and from what was noted before.
-abbrev pub TellsSo : {F : Type 0} → (F → World) → (opened : List Entry) (start : Map) → Past → List Step → List Told → Point F → List (Point F) → Type 0
-TellsSo world opened start past steps told old points = (many : ℕ) →
+abbrev pub TellsSo : {F : Type 0} → Drops → (F → World) → (opened : List Entry) (start : Map) → Past → List Step → List Told → Point F → List (Point F) → Type 0
+TellsSo May world opened start past steps told old points = (many : ℕ) →
     let outcomes = take many (outcomes_of steps told old points) in
     IsPlainUse (take many steps) → StandsAfter world opened start past old.store old.stage.core → InOrder opened (after_all opened past outcomes).journal
-    → EachTells opened past none_begun (take many steps) outcomes
+    → EachTells May opened past none_begun (take many steps) outcomes
 
 -- a run from one tree and store to another has a chain between them
 pub record RunHasMoments {F : Type 0} (world : F → World) (strategies : Strategies) (steps : List Step) (told : List Told) (old : Point F) (is : F) (new : Core) : Type 0 where
@@ -148,5 +150,5 @@ pub record RunHasMoments {F : Type 0} (world : F → World) (strategies : Strate
   -- a process may end at any moment, in a step or between two
   pub ready : IsStored (world old.store) (versions_left old.stage.core) (written_of old.stage.core) → EachReady world old.store (map (λ p. p.store) points)
   pub moments : (opened : List Entry) (start : Map) (past : Past) → HasMoments world opened start past steps told old points
-  pub tells : (opened : List Entry) (start : Map) (past : Past) → TellsSo world opened start past steps told old points
+  pub tells : (opened : List Entry) (start : Map) (past : Past) → TellsSo (may_drop strategies) world opened start past steps told old points
   pub goes_on : (opened : List Entry) (start : Map) (past : Past) → GoesOn world opened start past steps told old points is new

@@ -1,5 +1,5 @@
 -- What a step may note beside the journal, by its kind, its reply and what was noted before alone.
-use Rattle.std.specs.Prelude.{◌≡◌, ℕ, List, [], ◌∷◌, ◌++◌, Option, Some, None, option_to_list, if◌then◌else◌, ◌==◌}
+use Rattle.std.specs.Prelude.{◌≡◌, ℕ, List, [], ◌∷◌, ◌++◌, Option, Some, None, option_to_list, if◌then◌else◌}
 use Rattle.lsm_below.specs.Entries.{Entry}
 use Rattle.lsm_below.specs.declared.error.Error.TheVariants.{CommitUnknown}
 use Rattle.lsm_flush.specs.declared.jobs.Registered.{Registered as Outcome}
@@ -7,12 +7,14 @@ use Rattle.lsm_run_model.specs.declared.noted.Noted.{Noted}
 use Rattle.lsm_run_model.specs.declared.noted.Noted.TheVariants as note
 use Rattle.lsm_run_model.specs.Outcomes.{Told, Past, after, sealed_in}
 use Rattle.lsm_runs.specs.declared.steps.JobStep.{JobStep}
-use Rattle.lsm_runs.specs.declared.steps.JobStep.TheVariants.{BeginFlush, RegisterTables}
+use Rattle.lsm_runs.specs.declared.steps.JobStep.TheVariants.{RegisterTables}
 use Rattle.lsm_runs.specs.declared.steps.Step.{Step}
 use Rattle.lsm_runs.specs.declared.steps.Step.TheVariants.{RotateMemtable, AtSlot, Flush, FlushActiveMemtable, Clear}
 use Rattle.lsm_runs.specs.declared.steps.Reply.{Reply}
-use Rattle.lsm_runs.specs.declared.steps.Reply.TheVariants.{Begun, Sealed, Registered, Flushed, FlushedActive, RefusedActive, Cleared, Refused}
+use Rattle.lsm_runs.specs.declared.steps.Reply.TheVariants.{Sealed, Registered, Flushed, FlushedActive, RefusedActive, Cleared, Refused}
 use Rattle.lsm_runs.specs.Adds.{Adds}
+use Rattle.lsm_runs.specs.Dropping.{Drops}
+use Rattle.lsm_runs.specs.OpenFlushes.{BegunFlush, begun_after}
 
 -- ---- by kinds
 
@@ -58,26 +60,19 @@ abbrev pub JobNotes : List ℕ → JobStep → Reply → List Noted → Type 0
 JobNotes ids RegisterTables reply notes = NotesRegistration ids reply notes
 JobNotes ids step reply notes = notes ≡ []
 
--- where these are sealed, and these are the memtables of the job that was begun last in each slot: all other steps note nothing
-abbrev pub Notes : List ℕ → (ℕ → List ℕ) → Step → Reply → List Noted → Type 0
+-- where these are sealed, and these flushes were begun last in each slot: all other steps note nothing
+abbrev pub Notes : List ℕ → (ℕ → BegunFlush) → Step → Reply → List Noted → Type 0
 Notes sealed begun RotateMemtable reply notes = NotesRotation reply notes
 Notes sealed begun (Flush w) reply notes = NotesFlush sealed reply notes
 Notes sealed begun (FlushActiveMemtable w) reply notes = NotesFlushActive sealed reply notes
-Notes sealed begun (AtSlot slot step) reply notes = JobNotes (begun slot) step reply notes
+Notes sealed begun (AtSlot slot step) reply notes = JobNotes (begun slot).ids step reply notes
 Notes sealed begun Clear reply notes = NotesClear reply notes
 Notes sealed begun step reply notes = notes ≡ []
 
--- a flush is begun of all that are sealed
-abbrev pub begun_after : List ℕ → Step → Reply → (ℕ → List ℕ) → ℕ → List ℕ
-begun_after sealed (AtSlot slot BeginFlush) (Begun b) begun n = if n == slot then sealed else begun n
-begun_after sealed step reply begun n = begun n
-
-abbrev pub none_begun : ℕ → List ℕ
-none_begun n = []
-
 -- So what each outcome of a list of steps adds and notes, after what was called before: `sealed_in` has what is sealed by the notes so far.
-abbrev pub EachTells : List Entry → Past → (ℕ → List ℕ) → List Step → List (Told Reply) → Type 0
-EachTells opened past begun [] [] = Unit {0}
-EachTells opened past begun (x ∷ xs) (t ∷ ts) =
-    Adds x t.reply t.entries × Notes (sealed_in past.notes) begun x t.reply t.notes × EachTells opened (after opened past t) (begun_after (sealed_in past.notes) x t.reply begun) xs ts
-EachTells opened past begun xs ts = ⊥
+abbrev pub EachTells : Drops → List Entry → Past → (ℕ → BegunFlush) → List Step → List (Told Reply) → Type 0
+EachTells May opened past begun [] [] = Unit {0}
+EachTells May opened past begun (x ∷ xs) (t ∷ ts) =
+    Adds May begun x t.reply t.entries × Notes (sealed_in past.notes) begun x t.reply t.notes
+    × EachTells May opened (after opened past t) (begun_after (sealed_in past.notes) x t.reply begun) xs ts
+EachTells May opened past begun xs ts = ⊥

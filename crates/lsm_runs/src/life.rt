@@ -10,12 +10,14 @@ ghost use Rattle.lsm_state.specs.Opened.{files_told};
 ghost use Rattle.lsm_versions.specs.Levels.{Levels};
 ghost use Rattle.lsm_runs.specs.Causes.{EachHasCause};
 ghost use Rattle.lsm_runs.specs.Compacting.{strategies_of};
+ghost use Rattle.lsm_runs.specs.Dropping.{Allowance, AllowsDrops, allowed};
 ghost use Rattle.lsm_runs.specs.Lives.{LivesInOrder};
 ghost use Rattle.lsm_runs.specs.Living.{LivesOn, OpensAndRuns};
 
 use crate::{Reply, Step, Taken, run};
 use lsm_below::Error;
-use lsm_manifest::{openings_leave_what_was_read, settled_stores_are_ready};
+use lsm_manifest::{opening_finds, openings_leave_what_was_read, settled_stores_are_ready};
+use lsm_model::reads_are_sound;
 use lsm_parts::Config;
 use lsm_pick::CompactionStrategy;
 use lsm_run_model::{order_without_reads, rising_is_in_order};
@@ -54,8 +56,8 @@ pub fn live<S: Store>(
     ensures whole { IfOk result (λ r. OnOk r.1.ended (length r.1.outcomes.items ≡ length steps.now)) }
     // The steps ran on the tree that `TreeState::open_raised` makes of the store with this configuration.
     ensures ran { IfOk result (λ r. OpensAndRuns (strategies_of (λ b. may_choose b) (λ b. may_refuse b) strategies.now) config (take (length r.1.outcomes.items) steps.now) r.1.outcomes.items r.0.core) }
-    // A life, however it ends.
-    ensures lives { S.tells → IsReady (S.world store) → (m : Map) → StandsForMap (S.world store).gives m → IfOk result (λ r. LivesInOrder S.world m (take (length r.1.outcomes.items) steps.now) r.1.outcomes.items store r.0.store) }
+    // A life, however it ends, whatever allows what the strategies may drop.
+    ensures lives { (may : Allowance) → AllowsDrops (allowed may) (strategies_of (λ b. may_choose b) (λ b. may_refuse b) strategies.now) → S.tells → IsReady (S.world store) → (m : Map) → StandsForMap (S.world store).gives m → IfOk result (λ r. LivesInOrder (allowed may) S.world config.seqno m (take (length r.1.outcomes.items) steps.now) r.1.outcomes.items store r.0.store) }
     // The whole of what `run` says, after what opening left.
     ensures lives_on { S.tells → IsReady (S.world store) → (m : Map) → StandsForMap (S.world store).gives m → IfOk result (λ r. LivesOn S.world (strategies_of (λ b. may_choose b) (λ b. may_refuse b) strategies.now) m (take (length r.1.outcomes.items) steps.now) r.1.outcomes.items r.0.store r.0.core) }
     // Refused, it leaves the store ready to be opened again, and meanwhile a crash what it could before, or the tables that
@@ -68,7 +70,9 @@ pub fn live<S: Store>(
     ensures stands { S.tells → IsSettled (S.world store) → (m : Map) → StandsForMap (S.world store).gives m → IfErr result (λ e. LeavesOnly (S.world store) (S.world e.1) (λ image. StandsForMap image m)) }
 {
     settled_stores_are_ready(&store);
+    opening_finds(&store);
     openings_leave_what_was_read(&store);
+    reads_are_sound();
     rising_is_in_order(&Reply::Done);
     order_without_reads();
     let mut tree = match TreeState::open_raised(alloc, config, store) {

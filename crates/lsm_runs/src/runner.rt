@@ -13,6 +13,8 @@ ghost use Rattle.lsm_runs.specs.Causes.{ReplyBlames, EachHasCause};
 ghost use Rattle.lsm_runs.specs.Files.{StaysStored, LeavesFiles, StepHasCause};
 ghost use Rattle.lsm_runs.specs.Chains.{point, RanTo};
 ghost use Rattle.lsm_runs.specs.Compacting.{strategies_of};
+ghost use Rattle.lsm_runs.specs.Dropping.{may_drop};
+ghost use Rattle.lsm_runs.specs.OpenFlushes.{none_begun};
 ghost use Rattle.lsm_runs.specs.Unknown.{RanUnknown, RunStops};
 ghost use Rattle.lsm_runs.specs.Slots.{at_first, beside, SameJobs};
 ghost use Rattle.lsm_runs.specs.Moments.{RunHasMoments};
@@ -304,7 +306,7 @@ pub fn run<S: Store>(
     ensures ran { RanToEnd (strategies_of (λ b. may_choose b) (λ b. may_refuse b) strategies.now) (take (length result.outcomes.items) steps.now) result.outcomes.items state.old.core state.new.core }
     ensures replays { (opened : List Entry) (start : Map) → RunEqualsReplay opened start (take (length result.outcomes.items) steps.now) result.outcomes.items state.old.core state.new.core }
     // What each step adds to the journal, by its kind and its reply.
-    ensures adds { EachAdds (take (length result.outcomes.items) steps.now) result.outcomes.items }
+    ensures adds { EachAdds (may_drop (strategies_of (λ b. may_choose b) (λ b. may_refuse b) strategies.now)) none_begun (take (length result.outcomes.items) steps.now) result.outcomes.items }
     // Which sequence numbers and keys it uses, and that the journal is in order where the steps' own numbers rise.
     ensures uses { RunUses (take (length result.outcomes.items) steps.now) result.outcomes.items state.old.core }
     ensures rises { RunRises (take (length result.outcomes.items) steps.now) result.outcomes.items state.old.core }

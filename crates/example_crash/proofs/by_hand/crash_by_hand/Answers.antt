@@ -1,4 +1,4 @@
-use Rattle.std.proofs.Common.{arith, length, take, map, subst, ap}
+use Rattle.std.proofs.Common.{false, arith, rules, length, take, map, subst, ap}
 use Rattle.std.proofs.lemmas.Result.{err_from_is_err_and}
 use Rattle.std.specs.FinMap.{empty}
 use Rattle.lsm_runs.specs.Memory.{MemStore, world_of}
@@ -9,9 +9,11 @@ use Rattle.lsm_runs.specs.Finding.{StandsForMap}
 use Rattle.lsm_manifest.proofs.FindingLemmas.{nothing_in as none, nothing_stands}
 use Rattle.lsm_runs.specs.Rising.{At, highest}
 use Rattle.lsm_runs.specs.Drawing.{drawing_of}
+use Rattle.lsm_runs.specs.Dropping.{no_drops}
 use Rattle.example_crash.specs.Single.{MayBeOpened}
 use Rattle.example_crash.proofs.Again.{Settles, survives_again, refused_again}
 use Rattle.example_crash.proofs.Beginning.{new_counter, new_keeps}
+use Rattle.example_crash.proofs.Nothing.{nothing_drops}
 use Rattle.example_crash.proofs.Orders.{usual_keeps, first_keeps, first_highest, above_keeps}
 use Rattle.example_crash.proofs.Surviving.{refused_new}
 use Rattle.example_crash.proofs.by_hand.crash_by_hand.Goals as goal
@@ -28,14 +30,14 @@ returns-clause-by_hand c order over =
     let more = c.in_ok-after.after.outcomes.items in
     let is = c.in_ok-store.store in
     let first = take (length told) c.args.first.now in
-    let h = c.in_ok-store.ensures.lives empty (opens_new c.crashes_settle.ensures.ready c.crashes_settle.ensures.stands store new) in
+    let h = c.in_ok-store.ensures.lives (λ at ranges. false) (nothing_drops no_drops _ c.deref.result.now (search rules)) empty (opens_new c.crashes_settle.ensures.ready c.crashes_settle.ensures.stands store new) in
     let left = picked is.files c.args.picks.now in
     let crashed = subst (Crashes is.files left) c.in-Some.is c.in_ok-left.ensures in
-    let most = ap (λ n. highest (At n) (map drawing_of first)) (new_counter empty store c.args.from first told is new h) in
+    let most = ap (λ n. highest (At n) (map drawing_of first)) (new_counter no_drops empty store c.args.from first told is new h) in
     let least = first_highest (length told) c.args.first.now _ (At c.args.from) order.rise.numbers in
-    survives_again c.crashes_settle.ensures.ready store c.args.from first told is h (first_keeps h.opened h.counter (length told) c.args.first.now (new_keeps empty store c.args.from first told is new h c.args.first.now order))
-    left c.in-Some.left crashed.0 crashed.1.world c.args.again (take (length more) c.args.second.now) more _ c.in_ok-after.ensures.lives
-    (λ m l low. first_keeps l.opened l.counter (length more) c.args.second.now (above_keeps _ c.args.again l.opened l.counter c.args.second.now (omega (arith, low, most, least)) l.starts over))
+    survives_again c.crashes_settle.ensures.ready store c.args.from first told is h (first_keeps h.lives.opened h.lives.counter (length told) c.args.first.now (new_keeps no_drops empty store c.args.from first told is new h c.args.first.now order))
+    left c.in-Some.left crashed.0 crashed.1.world c.args.again (take (length more) c.args.second.now) more _ (c.in_ok-after.ensures.lives (λ at ranges. false) (nothing_drops no_drops _ c.deref-2.result.now (search rules)))
+    (λ m l low. first_keeps l.lives.opened l.lives.counter (length more) c.args.second.now (above_keeps _ c.args.again l.lives.opened l.lives.counter c.args.second.now (omega (arith, low, most, least)) l.lives.starts over))
 
 pub returns-clause-usual : goal.returns-clause-usual
 returns-clause-usual c usual more_usual =
@@ -43,23 +45,23 @@ returns-clause-usual c usual more_usual =
     let told = c.in_ok-store.before.outcomes.items in
     let more = c.in_ok-after.after.outcomes.items in
     let is = c.in_ok-store.store in
-    let h = c.in_ok-store.ensures.lives empty (opens_new c.crashes_settle.ensures.ready c.crashes_settle.ensures.stands store c.requires.new) in
+    let h = c.in_ok-store.ensures.lives (λ at ranges. false) (nothing_drops no_drops _ c.deref.result.now (search rules)) empty (opens_new c.crashes_settle.ensures.ready c.crashes_settle.ensures.stands store c.requires.new) in
     let left = picked is.files c.args.picks.now in
     let crashed = subst (Crashes is.files left) c.in-Some.is c.in_ok-left.ensures in
-    survives_again c.crashes_settle.ensures.ready store c.args.from (take (length told) c.args.first.now) told is h (first_keeps h.opened h.counter (length told) c.args.first.now (usual_keeps h.opened h.counter c.args.first.now usual))
-    left c.in-Some.left crashed.0 crashed.1.world c.args.again (take (length more) c.args.second.now) more _ c.in_ok-after.ensures.lives
-    (λ m l low. first_keeps l.opened l.counter (length more) c.args.second.now (usual_keeps l.opened l.counter c.args.second.now more_usual))
+    survives_again c.crashes_settle.ensures.ready store c.args.from (take (length told) c.args.first.now) told is h (first_keeps h.lives.opened h.lives.counter (length told) c.args.first.now (usual_keeps h.lives.opened h.lives.counter c.args.first.now usual))
+    left c.in-Some.left crashed.0 crashed.1.world c.args.again (take (length more) c.args.second.now) more _ (c.in_ok-after.ensures.lives (λ at ranges. false) (nothing_drops no_drops _ c.deref-2.result.now (search rules)))
+    (λ m l low. first_keeps l.lives.opened l.lives.counter (length more) c.args.second.now (usual_keeps l.lives.opened l.lives.counter c.args.second.now more_usual))
 
 pub returns-clause-crashed : goal.returns-clause-crashed
 returns-clause-crashed c =
     let is = c.in_ok-store.store in
-    let h = c.in_ok-store.ensures.lives empty (opens_new c.crashes_settle.ensures.ready c.crashes_settle.ensures.stands c.args.store c.requires.new) in
+    let h = c.in_ok-store.ensures.lives (λ at ranges. false) (nothing_drops no_drops _ c.deref.result.now (search rules)) empty (opens_new c.crashes_settle.ensures.ready c.crashes_settle.ensures.stands c.args.store c.requires.new) in
     record { is = is; lives = h.lives; has = (subst (Crashes is.files (picked is.files c.args.picks.now)) c.in-Some.is c.in_ok-left.ensures).0 }
 
 pub returns-in_default-clause-crashed : goal.returns-in_default-clause-crashed
 returns-in_default-clause-crashed c =
     let is = c.in_ok-store.store in
-    let h = c.in_ok-store.ensures.lives empty (opens_new c.crashes_settle.ensures.ready c.crashes_settle.ensures.stands c.args.store c.requires.new) in
+    let h = c.in_ok-store.ensures.lives (λ at ranges. false) (nothing_drops no_drops _ c.deref.result.now (search rules)) empty (opens_new c.crashes_settle.ensures.ready c.crashes_settle.ensures.stands c.args.store c.requires.new) in
     (c.in_ok-store.before.outcomes.items, record { is = is; lives = h.lives; has = subst (Crashes is.files (picked is.files c.args.picks.now)) c.in_default.is c.in_ok-left.ensures })
 
 -- ---- refusals
@@ -85,10 +87,10 @@ returns-in_err-after-clause-by_hand c order over =
     let told = c.in_ok-store.before.outcomes.items in
     let is = c.in_ok-store.store in
     let first = take (length told) c.args.first.now in
-    let h = c.in_ok-store.ensures.lives empty (opens_new c.crashes_settle.ensures.ready c.crashes_settle.ensures.stands store c.requires.new) in
+    let h = c.in_ok-store.ensures.lives (λ at ranges. false) (nothing_drops no_drops _ c.deref.result.now (search rules)) empty (opens_new c.crashes_settle.ensures.ready c.crashes_settle.ensures.stands store c.requires.new) in
     let left = picked is.files c.args.picks.now in
     let crashed = subst (Crashes is.files left) c.in-Some.is c.in_ok-left.ensures in
-    rw (p.1, p.2) (refused_again c.crashes_settle.ensures.ready empty store c.args.from first told is h (first_keeps h.opened h.counter (length told) c.args.first.now (new_keeps empty store c.args.from first told is c.requires.new h c.args.first.now order))
+    rw (p.1, p.2) (refused_again no_drops c.crashes_settle.ensures.ready empty store c.args.from first told is h (first_keeps h.lives.opened h.lives.counter (length told) c.args.first.now (new_keeps no_drops empty store c.args.from first told is c.requires.new h c.args.first.now order))
     left c.in-Some.left crashed.0 crashed.1.world c.in_err-after.field-0.0 c.in_err-after.ensures.refused)
 
 pub returns-in_err-after-clause-usual : goal.returns-in_err-after-clause-usual
@@ -97,8 +99,8 @@ returns-in_err-after-clause-usual c usual more_usual =
     let store = c.args.store in
     let told = c.in_ok-store.before.outcomes.items in
     let is = c.in_ok-store.store in
-    let h = c.in_ok-store.ensures.lives empty (opens_new c.crashes_settle.ensures.ready c.crashes_settle.ensures.stands store c.requires.new) in
+    let h = c.in_ok-store.ensures.lives (λ at ranges. false) (nothing_drops no_drops _ c.deref.result.now (search rules)) empty (opens_new c.crashes_settle.ensures.ready c.crashes_settle.ensures.stands store c.requires.new) in
     let left = picked is.files c.args.picks.now in
     let crashed = subst (Crashes is.files left) c.in-Some.is c.in_ok-left.ensures in
-    rw (p.1, p.2) (refused_again c.crashes_settle.ensures.ready empty store c.args.from (take (length told) c.args.first.now) told is h (first_keeps h.opened h.counter (length told) c.args.first.now (usual_keeps h.opened h.counter c.args.first.now usual))
+    rw (p.1, p.2) (refused_again no_drops c.crashes_settle.ensures.ready empty store c.args.from (take (length told) c.args.first.now) told is h (first_keeps h.lives.opened h.lives.counter (length told) c.args.first.now (usual_keeps h.lives.opened h.lives.counter c.args.first.now usual))
     left c.in-Some.left crashed.0 crashed.1.world c.in_err-after.field-0.0 c.in_err-after.ensures.refused)

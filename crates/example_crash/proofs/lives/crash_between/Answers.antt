@@ -1,4 +1,4 @@
-use Rattle.std.proofs.Common.{length, take, subst}
+use Rattle.std.proofs.Common.{false, length, take, subst}
 use Rattle.std.proofs.lemmas.Result.{err_from_is_err_and}
 use Rattle.std.specs.FinMap.{empty}
 use Rattle.lsm_runs.specs.Picks.{picked, Crashes}
@@ -17,7 +17,7 @@ returns-clause-survives c usual more_usual =
     let is = c.in_ok-store.store in
     let image = picked is.files c.args.picks.now in
     let crashed = subst (Crashes is.files image) c.in-Some.is c.in_ok-left.ensures in
-    let kept = crash_leaves c.images_stand_once.ensures.found c.any_number_of_lives.ensures store is c.in-Some.left image crashed.0 crashed.1.world c.requires.new (take (length told) c.args.first.now) told
+    let kept = crash_leaves c.images_stand_once.ensures.found (c.any_number_of_lives.ensures (λ at ranges. false)) 0 store is c.in-Some.left image crashed.0 crashed.1.world c.requires.new (take (length told) c.args.first.now) told
     (first_usual (length told) c.args.first.now usual) (λ m stands. c.in_ok-store.ensures.lives ready m stands) in
     let again = c.crashes_settle.ensures.ready c.in-Some.left _ kept.0 kept.1.stands (begins_itself image c.in-Some.left crashed.1.world) in
     record {
@@ -61,6 +61,6 @@ returns-in_err-after-clause-survives c usual more_usual =
     let is = c.in_ok-store.store in
     let image = picked is.files c.args.picks.now in
     let crashed = subst (Crashes is.files image) c.in-Some.is c.in_ok-left.ensures in
-    let kept = crash_leaves c.images_stand_once.ensures.found c.any_number_of_lives.ensures store is c.in-Some.left image crashed.0 crashed.1.world c.requires.new (take (length told) c.args.first.now) told
+    let kept = crash_leaves c.images_stand_once.ensures.found (c.any_number_of_lives.ensures (λ at ranges. false)) 0 store is c.in-Some.left image crashed.0 crashed.1.world c.requires.new (take (length told) c.args.first.now) told
     (first_usual (length told) c.args.first.now usual) (λ m stands. c.in_ok-store.ensures.lives ready m stands) in
     rw (p.1, p.2) (wants _ c.in_err-after.field-0.0 kept.1.below (c.in_err-after.ensures.refused kept.0 kept.1.stands))

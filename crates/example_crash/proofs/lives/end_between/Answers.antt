@@ -1,4 +1,4 @@
-use Rattle.std.proofs.Common.{length, take, refl}
+use Rattle.std.proofs.Common.{false, length, take, refl}
 use Rattle.std.proofs.lemmas.Result.{err_from_is_err_and}
 use Rattle.std.specs.FinMap.{empty}
 use Rattle.lsm_runs.specs.Memory.{world_of}
@@ -17,8 +17,8 @@ returns c usual more_usual =
     let stands = c.crashes_settle.ensures.stands was none empty nothing_stands c.requires.new in
     let told = c.in_ok-store.before.outcomes.items in
     let first = first_usual (length told) c.args.first.now usual in
-    let kept = survives c.images_stand_once.ensures.found c.any_number_of_lives.ensures was is (Killed is) c.requires.new (ended_now is) (take (length told) c.args.first.now) told first (λ m stands. c.in_ok-store.ensures.lives ready m stands) (world_of is).gives (given_now is) in
-    let again = stays_ready c.images_stand_once.ensures.found c.any_number_of_lives.ensures was is (Killed is) c.requires.new (ended_now is) (take (length told) c.args.first.now) told first (λ m stands. c.in_ok-store.ensures.lives ready m stands) empty stands is refl in
+    let kept = survives c.images_stand_once.ensures.found (c.any_number_of_lives.ensures (λ at ranges. false)) 0 was is (Killed is) c.requires.new (ended_now is) (take (length told) c.args.first.now) told first (λ m stands. c.in_ok-store.ensures.lives ready m stands) (world_of is).gives (given_now is) in
+    let again = stays_ready c.images_stand_once.ensures.found (c.any_number_of_lives.ensures (λ at ranges. false)) 0 was is (Killed is) c.requires.new (ended_now is) (take (length told) c.args.first.now) told first (λ m stands. c.in_ok-store.ensures.lives ready m stands) empty stands is refl in
     record {
       before = c.in_ok-store.ensures.answers ready empty stands usual;
       left = kept.0;
@@ -43,5 +43,5 @@ returns-in_err-after c usual more_usual =
     let ready = c.crashes_settle.ensures.ready was none empty nothing_stands c.requires.new in
     let told = c.in_ok-store.before.outcomes.items in
     let first = first_usual (length told) c.args.first.now usual in
-    let kept = survives c.images_stand_once.ensures.found c.any_number_of_lives.ensures was is (Killed is) c.requires.new (ended_now is) (take (length told) c.args.first.now) told first (λ m stands. c.in_ok-store.ensures.lives ready m stands) (world_of is).gives (given_now is) in
+    let kept = survives c.images_stand_once.ensures.found (c.any_number_of_lives.ensures (λ at ranges. false)) 0 was is (Killed is) c.requires.new (ended_now is) (take (length told) c.args.first.now) told first (λ m stands. c.in_ok-store.ensures.lives ready m stands) (world_of is).gives (given_now is) in
     rw (p.1, p.2) (wants _ c.in_err-after.field-0.0 kept.1.below (c.in_err-after.ensures.refused kept.0 kept.1.stands))

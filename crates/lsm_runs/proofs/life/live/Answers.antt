@@ -1,25 +1,31 @@
 use Rattle.std.proofs.Common.{refl, ap}
 use Rattle.lsm_state.specs.Core.{Core}
 use Rattle.lsm_runs.specs.Chains.{Point}
+use Rattle.lsm_runs.specs.Dropping.{allowed}
 use Rattle.lsm_runs.specs.Living.{opened_in}
 use Rattle.lsm_runs.specs.Slots.{at_first}
 use Rattle.lsm_runs.proofs.Causing.{causes_between}
 use Rattle.lsm_runs.proofs.RunLives.{runs_are_lives, lived}
 use Rattle.lsm_runs.proofs.Small.{found_low}
+use Rattle.lsm_runs.proofs.Starting.{starts_above, found_same}
 use Rattle.lsm_runs.proofs.Settled.{settled_for}
 use Rattle.lsm_runs.proofs.life.live.Goals as goal
 
 pub returns-clause-lives : goal.returns-clause-lives
-returns-clause-lives g c tells ready m stands =
+returns-clause-lives g c may allows tells ready m stands =
     let world = g.S.Store.world in
     let opened = c.in-Ok.ensures in
-    let starts = (opened.opens tells).shows m stands in
-    let old : Point _ = record { store = c.in-Ok.tree.store; stage = at_first c.in-Ok.tree.core } in
-    let moments = c.run-taken.ensures.moments tells in
-    lived world _ c.args.store (opened_in c.in-Ok.tree.core) m _ _ old _ _ moments
-    (λ tables found. c.openings_leave_what_was_read.ensures.meanwhile tells c.args.store c.in-Ok.tree.store tables ready found (opened.opens tells).leaves)
-    (runs_are_lives world _ _ _ old _ _ moments (opened_in c.in-Ok.tree.core) m starts.starts (ap (λ (t : Core). t.lost) opened.core) ((opened.opens tells).stored ready) (found_low c.in-Ok.tree.core.history.latest.version.levels opened.small))
-    c.rising_is_in_order.ensures c.order_without_reads.ensures opened.counted
+    let tree = c.in-Ok.tree in
+    let opens = opened.opens tells in
+    let starts = (opens.shows m stands).starts in
+    let old : Point _ = record { store = tree.store; stage = at_first tree.core } in
+    let ran = c.run-taken.ensures in
+    let moments = ran.moments tells in
+    lived (allowed may) world _ c.args.store c.args.config.seqno (opened_in tree.core) m _ _ old _ _ moments
+    (found_same world c.opening_finds.ensures c.args.store tree.store tree.core opens)
+    (λ tables found. c.openings_leave_what_was_read.ensures.meanwhile tells c.args.store tree.store tables ready found opens.leaves)
+    (runs_are_lives world _ may allows _ _ old _ _ moments (opened_in tree.core) m starts (ap (λ (t : Core). t.lost) opened.core) (opens.stored ready) (found_low tree.core.history.latest.version.levels opened.small))
+    c.rising_is_in_order.ensures c.order_without_reads.ensures c.reads_are_sound.ensures.kept (starts_above c.args.config tree.core opened.core opened.small) ran.right starts (ap (λ (t : Core). t.lost) opened.core) (opens.stored ready)
 
 pub returns-clause-lives_on : goal.returns-clause-lives_on
 returns-clause-lives_on g c tells ready m stands =
