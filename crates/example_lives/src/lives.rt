@@ -6,12 +6,15 @@ ghost use Rattle.lsm_log_runs.specs.Memory.{world_of};
 ghost use Rattle.lsm_log_runs.specs.World.{Begins};
 ghost use Rattle.lsm_log_runs.specs.Images.{MayBeOpened};
 ghost use Rattle.lsm_log_runs.specs.Lives.{IsUsual};
+ghost use Rattle.lsm_runs.specs.Compacting.{strategies_of};
+ghost use Rattle.lsm_runs.specs.Dropping.{Allowance, AllowsDrops, allowed};
 ghost use Rattle.example_lives.specs.Remembering.{LivesSo, LeadsOn, EachRemembers};
 
 use lsm_log_runs::{
     LogStep, TakenLogged, any_number_of_logged_lives, live_logged, new_logs_open,
     openings_are_logged_lives,
 };
+use lsm_pick::CompactionStrategy;
 use lsm_state::{Config, Error, MemStore, Pick};
 use std::alloc::{AllocError, Global};
 
@@ -32,10 +35,15 @@ pub enum Lived {
 }
 
 /// Opens the logged tree of a store, and takes the steps. The store comes back.
-fn live_once(alloc: Global, store: MemStore, steps: &[LogStep]) -> (Lived, MemStore)
-    ensures { MayBeOpened (world_of store) → LivesSo store steps.now result.0 result.1 }
+fn live_once(
+    alloc: Global,
+    store: MemStore,
+    strategies: &[Box<dyn CompactionStrategy>],
+    steps: &[LogStep],
+) -> (Lived, MemStore)
+    ensures { (may : Allowance) → AllowsDrops (allowed may) (strategies_of (λ b. may_choose b) (λ b. may_refuse b) strategies.now) → MayBeOpened (world_of store) → LivesSo (allowed may) store steps.now result.0 result.1 }
 {
-    match live_logged(alloc, Config::new(0, 0, 0), store, &[], steps) {
+    match live_logged(alloc, Config::new(0, 0, 0), store, strategies, steps) {
         Ok((tree, taken)) => (Lived::Took(taken), tree.into_store()),
         Err((error, store)) => (Lived::Refused(error), store),
     }
@@ -45,13 +53,14 @@ fn live_once(alloc: Global, store: MemStore, steps: &[LogStep]) -> (Lived, MemSt
 fn live_and_crash(
     alloc: Global,
     store: MemStore,
+    strategies: &[Box<dyn CompactionStrategy>],
     life: &Life,
 ) -> Result<Option<(Lived, MemStore)>, AllocError>
-    ensures { MayBeOpened (world_of store) → AllByRecursion IsUsual life.now.steps.items → IfOk result (λ r. IfSome r (λ l. LeadsOn (world_of store) life.now l.0 (world_of l.1))) }
+    ensures { (may : Allowance) → AllowsDrops (allowed may) (strategies_of (λ b. may_choose b) (λ b. may_refuse b) strategies.now) → MayBeOpened (world_of store) → AllByRecursion IsUsual life.now.steps.items → IfOk result (λ r. IfSome r (λ l. LeadsOn (allowed may) (world_of store) life.now l.0 (world_of l.1))) }
 {
     any_number_of_logged_lives(&store);
     openings_are_logged_lives(&store);
-    let (lived, store) = live_once(alloc, store, &life.steps);
+    let (lived, store) = live_once(alloc, store, strategies, &life.steps);
     match store.crash(&life.picks)? {
         Some(left) => Ok(Some((lived, left))),
         None => Ok(None),
@@ -64,20 +73,21 @@ fn live_and_crash(
 ///
 /// Of usual steps nothing else is asked, but that no batch removes a key weakly: each life begins with a beginning of the
 /// calls of the last one before it that was opened, between batches, which holds all that was acknowledged; and each read
-/// answers what the replay of its life's calls does over that.
+/// answers what the replay of its life's calls does over that, outside of what strategies dropped, which is allowed.
 pub fn live_again(
     alloc: Global,
     store: MemStore,
+    strategies: &[Box<dyn CompactionStrategy>],
     lives: &[Life],
 ) -> Result<Option<Vec<Lived>>, AllocError>
     requires new { Begins (λ _. None) (world_of store) }
-    ensures { AllByRecursion (λ l. AllByRecursion IsUsual l.steps.items) lives.now → IfOk result (λ r. IfSome r (λ lived. EachRemembers empty [] [] lives.now lived.items)) }
+    ensures { (may : Allowance) → AllowsDrops (allowed may) (strategies_of (λ b. may_choose b) (λ b. may_refuse b) strategies.now) → AllByRecursion (λ l. AllByRecursion IsUsual l.steps.items) lives.now → IfOk result (λ r. IfSome r (λ lived. EachRemembers (allowed may) empty [] [] lives.now lived.items)) }
 {
     new_logs_open(&store);
     let mut store = store;
     let mut all = Vec::new(alloc);
     for life in lives {
-        let Some(next) = live_and_crash(alloc, store, life)? else {
+        let Some(next) = live_and_crash(alloc, store, strategies, life)? else {
             return Ok(None);
         };
         store = next.1;

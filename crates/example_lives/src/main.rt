@@ -1,18 +1,27 @@
-//! Lives of a logged tree, one after the other, each ended by a crash: what was acknowledged is read back whole.
+//! Lives of a logged tree, one after the other, compacted by `Leveled` and each ended by a crash: what was acknowledged is read
+//! back whole.
 //!
 //! The contract of `live_again` is derived from those of public calls: it says what a user wants to know of any number of crashes.
+//! `nothing_is_dropped` says it again for strategies that never drop, so of every key.
 #![tactic(auto)]
 
 mod lives;
 
-ghost use Rattle.std.specs.Prelude.{None};
+ghost use Rattle.std.specs.Prelude.{[], None};
+ghost use Rattle.std.specs.List.{AllByRecursion};
+ghost use Rattle.std.specs.FinMap.{empty};
 ghost use Rattle.lsm_log_runs.specs.Memory.{world_of};
 ghost use Rattle.lsm_log_runs.specs.World.{Begins};
+ghost use Rattle.lsm_runs.specs.Compacting.{strategies_of};
+ghost use Rattle.lsm_runs.specs.Dropping.{NoneDrops, no_drops};
+ghost use Rattle.lsm_log_runs.specs.Lives.{IsUsual};
+ghost use Rattle.example_lives.specs.Remembering.{EachRemembers};
 
 use anyhow::Result;
 use lives::{Life, Lived, live_again};
 use lsm_log_runs::{LogStep, TakenLogged};
-use lsm_runs::Reply;
+use lsm_pick::{CompactionStrategy, Leveled, leveled_never_drops};
+use lsm_runs::{Compacted, Reply};
 use lsm_state::{Fault, MemStore, Op, Ops, Pick, UserKey, UserValue};
 use std::alloc::{AllocError, Global};
 
@@ -32,31 +41,40 @@ fn write(alloc: Global, apple: &'static [u8], plum: &'static [u8]) -> Result<Log
     Ok(LogStep::Write(Ops::new(ops)))
 }
 
-fn look(key: &'static [u8]) -> LogStep {
-    LogStep::Get(UserKey::from_static(key), LATEST)
+fn look(key: &'static [u8], snapshot: u64) -> LogStep {
+    LogStep::Get(UserKey::from_static(key), snapshot)
 }
 
-/// Two batches are written.
+/// Two batches are written, each into a table of its own, which the first strategy merges; a third one is only in the log.
 fn first(alloc: Global) -> Result<Vec<LogStep>, AllocError> {
     let unripe = write(alloc, b"green", b"green")?;
     let ripe = write(alloc, b"red", b"blue")?;
-    Ok(vec![in alloc; unripe, ripe]?)
-}
-
-/// They are read and flushed, and one more is written.
-fn second(alloc: Global) -> Result<Vec<LogStep>, AllocError> {
     let dried = write(alloc, b"brown", b"black")?;
     Ok(vec![in alloc;
-        look(b"apple"),
-        look(b"plum"),
+        unripe,
         LogStep::FlushActiveMemtable(0),
+        ripe,
+        LogStep::FlushActiveMemtable(0),
+        LogStep::Compact(0, 4),
         dried,
+    ]?)
+}
+
+/// The third one is read and flushed, and one more is written, which a snapshot before it doesn't see.
+fn second(alloc: Global) -> Result<Vec<LogStep>, AllocError> {
+    let painted = write(alloc, b"gold", b"white")?;
+    Ok(vec![in alloc;
+        look(b"apple", 6),
+        LogStep::FlushActiveMemtable(0),
+        painted,
+        look(b"apple", 7),
+        look(b"apple", 8),
     ]?)
 }
 
 /// The last one is read.
 fn third(alloc: Global) -> Result<Vec<LogStep>, AllocError> {
-    Ok(vec![in alloc; look(b"apple"), look(b"plum")]?)
+    Ok(vec![in alloc; look(b"apple", 8), look(b"plum", LATEST)]?)
 }
 
 /// A life of these steps, after which a crash leaves what it mostly does.
@@ -73,6 +91,8 @@ fn print_replies(rt: &impl Print, taken: &TakenLogged) -> Result<()> {
         match reply {
             Reply::Number(number) => println!(rt; "    written under {number}")?,
             Reply::Value(value) => println!(rt; "    read {value:?}")?,
+            Reply::FlushedActive(_, Some(_)) => println!(rt; "    flushed")?,
+            Reply::Compacted(Compacted::Installed) => println!(rt; "    compacted")?,
             _ => (),
         }
     }
@@ -96,26 +116,40 @@ fn print_lives(rt: &impl Print, lives: &Option<Vec<Lived>>) -> Result<()> {
     Ok(())
 }
 
+/// Costs nothing: its caller has to show that none of these strategies ever drops, and that these lives went so where
+/// nothing may be dropped.
+fn nothing_is_dropped(strategies: &[Box<dyn CompactionStrategy>], lives: &[Life], lived: &[Lived])
+    requires strategies { NoneDrops (strategies_of (λ b. may_choose b) (λ b. may_refuse b) strategies.now) }
+    requires lives { AllByRecursion (λ l. AllByRecursion IsUsual l.steps.items) lives.now → EachRemembers no_drops empty [] [] lives.now lived.now }
+{}
+
 /// Three lives, each ended by a crash.
 fn live_thrice(alloc: Global, store: MemStore) -> Result<Option<Vec<Lived>>, AllocError>
     requires new { Begins (λ _. None) (world_of store) }
 {
+    leveled_never_drops();
+    let mut strategies: Vec<Box<dyn CompactionStrategy>> = Vec::new(alloc);
+    strategies.push(Box::new(alloc, Leveled::new(alloc)?.with_l0_threshold(2))?)?;
     let lives = vec![in alloc;
         life(alloc, first(alloc)?),
         life(alloc, second(alloc)?),
         life(alloc, third(alloc)?),
     ]?;
-    live_again(alloc, store, &lives)
+    let went = live_again(alloc, store, &strategies, &lives)?;
+    if let Some(lived) = &went {
+        nothing_is_dropped(&strategies, &lives, lived);
+    }
+    Ok(went)
 }
 
-/// One life, after which a crash is to leave nothing of a batch that was acknowledged.
+/// One life, which no strategy compacts, after which a crash is to leave nothing of its last batch, which was acknowledged.
 fn lose(alloc: Global) -> Result<Option<Vec<Lived>>, AllocError> {
     let lost = Life {
         steps: first(alloc)?,
-        picks: vec![in alloc; ("log/0", Pick::Absent)]?,
+        picks: vec![in alloc; ("log/4", Pick::Absent)]?,
     };
     let lives = vec![in alloc; lost]?;
-    live_again(alloc, MemStore::new(alloc), &lives)
+    live_again(alloc, MemStore::new(alloc), &[], &lives)
 }
 
 /// A new store whose first call fails.
@@ -129,7 +163,7 @@ fn faulty(alloc: Global) -> MemStore
 
 fn main(rt: HostRuntime) -> Result<()> {
     let alloc = rt.alloc();
-    println!(rt; "three lives")?;
+    println!(rt; "three lives, compacted by Leveled")?;
     print_lives(&rt, &live_thrice(alloc, MemStore::new(alloc))?)?;
     println!(rt; "with a fault in the first store call")?;
     print_lives(&rt, &live_thrice(alloc, faulty(alloc))?)?;

@@ -60,6 +60,7 @@ closed_stands {S} world image past old new c s = record {
   next = subst (λ (x : Core). MayBeDrawn (opened_by image) s.log x.seqno) (sym c.core.rest) s.next;
   stored = closed_stored world old.store new.store old.core new.core c.core c.rest.store s.stored;
   apart = subst (λ (x : Core). AreApart (versions_left x)) (sym c.core.rest) s.apart;
+  small = s.small;
 }
 
 -- ---- what stays stored

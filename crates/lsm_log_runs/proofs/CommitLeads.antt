@@ -17,19 +17,20 @@ use Rattle.lsm_log_model.specs.Logs.{IsCertain, Act, Did, CommitLost}
 use Rattle.lsm_log_model.specs.Records.{LogImage, logged, opened_by}
 use Rattle.lsm_runs.specs.declared.steps.Reply.{Reply}
 use Rattle.lsm_runs.specs.declared.steps.Reply.TheVariants.{Sealed, Flushed as FlushedReply, FlushedActive, RefusedActive, NoStrategy, SlotInUse, Refused}
-use Rattle.lsm_pick.specs.declared.bounds.OwnedBounds.{OwnedBounds}
-use Rattle.lsm_runs.specs.Adds.{AnyRanges, NoRanges, RangesWithin}
+use Rattle.lsm_pick.specs.declared.choice.Choice.{Choice}
 use Rattle.lsm_runs.specs.Compacting.{reply_of}
-use Rattle.lsm_runs.proofs.Dropping.{drop_within}
+use Rattle.lsm_runs.proofs.Drawing.{rotated_same}
 use Rattle.lsm_runs.proofs.Resting.{Rests, rotated}
-use Rattle.lsm_state.specs.Compactions.{levels_of}
+use Rattle.lsm_state.specs.Compactions.{Relation, levels_of}
+use Rattle.lsm_state.specs.Dropping.{MayDropIds, DropsFrom}
 use Rattle.lsm_state.specs.Core.{Core, state_of, versions_left}
 use Rattle.lsm_state.specs.declared.compaction.Begun.{Begun}
 use Rattle.lsm_state.specs.declared.compaction.Begun.TheVariants.{DidNothing, Declined, Installed, Job}
-use Rattle.lsm_logged.specs.Acting.{LeadsBy, LeadsByCommit, LeadsByLost, LeadsByMark, IsCompaction, IsMerging, DropsWithin, told_by, told_installed, ActsByCompaction, CompactsBy}
+use Rattle.lsm_logged.specs.Acting.{LeadsBy, LeadsByCommit, LeadsByLost, LeadsByMark, IsCompaction, IsAnyCompaction, IsMerging, DropsWithin, told_by, told_installed, ActsByCompaction, CompactsBy}
 use Rattle.lsm_logged.specs.Keeping.{SeenLogged}
 use Rattle.lsm_log_runs.specs.Adds.{AddsRotation, AddsFlush, AddsFlushActive, IsDrop, AddsInstalled, AddsCompaction}
 use Rattle.lsm_log_runs.specs.Doing.{ActsRotate, ActsFlush, ActsBehind, ActsFlushActive, ActsCompaction, ActsCompact}
+use Rattle.lsm_log_runs.specs.Dropping.{ranges_within}
 use Rattle.lsm_log_runs.specs.Images.{Keeps}
 use Rattle.lsm_log_runs.specs.Leading.{SparesAnswers}
 use Rattle.lsm_log_runs.specs.Pasts.{LogPast, acknowledged, with_commit, with_doubt, with_sealed}
@@ -37,6 +38,7 @@ use Rattle.lsm_log_runs.specs.Runs.{TakesRotate}
 use Rattle.lsm_log_runs.specs.Standing.{StandsLogged}
 use Rattle.lsm_log_runs.proofs.Advancing.{from_rest}
 use Rattle.lsm_log_runs.proofs.Leading.{Reading, Stores, StepFiles, Led, nothing_stands, nothing_led, same_led}
+use Rattle.lsm_log_runs.proofs.Exactly.{told_exactly}
 use Rattle.lsm_log_runs.proofs.Orders.{order_marked, order_dropping, order_lost}
 use Rattle.lsm_log_runs.proofs.Rotations.{rotates_stored}
 use Rattle.lsm_log_runs.proofs.Sparing.{is_steady, FindsOn, found_on, spares_then}
@@ -117,7 +119,7 @@ module _ {S : Type 0} (world : S → World) (reading : Reading) (between : Store
 
 module _ {S : Type 0} (world : S → World) (reading : Reading) (between : Stores world) (image : LogImage) (past : LogPast) (old new : SeenLogged S) (s : StandsLogged world image past old) (stored : StepFiles world old new) (rest : AtRest (world new.store)) where
   flushed_behind : (watermark : ℕ) (id : Option ℕ) (reply : Reply) → ActsBehind watermark id reply (world old.store) (world new.store) old new
-      → (next : LogPast) × ((mid : LogPast) × AddsRotation (Sealed id) past mid × AddsFlush watermark reply mid next) × Led world reading between image past next old new
+      → (next : LogPast) × ((mid : LogPast) × AddsRotation (Sealed id) past mid × AddsFlush old.core.seqno watermark reply mid next) × Led world reading between image past next old new
   flushed_behind watermark id reply both =
       let mid = both.mid in
       let at = rotation_stands world reading between image past old mid s id both.rotates both.sealed in
@@ -127,10 +129,10 @@ module _ {S : Type 0} (world : S → World) (reading : Reading) (between : Store
       let files : StepFiles world mid new = record { stays = λ h. stored.stays s.stored; makes = from_rest old.core mid.core new.core rests stored.makes } in
       let led = flush_leads world reading between image at.0 mid new at.3 files rest watermark reply acts in (
         led.0,
-        (at.0, at.1, led.1),
+        (at.0, at.1, subst (λ c. AddsFlush c watermark reply at.0 led.0) (rotated_same old.core id mid.core both.rotates.0) led.1),
         record {
           stands = led.2.stands;
-          inside = subst (λ (x : S). LeavesOnly (world x) (world new.store) (Keeps (logged image) led.0 (acknowledged past))) same (subst (λ n. LeavesOnly (world mid.store) (world new.store) (Keeps (logged image) led.0 n)) at.2 led.2.inside);
+          inside = subst (λ (x : S). LeavesOnly (world x) (world new.store) (Keeps (opened_by image) (logged image) led.0 (acknowledged past))) same (subst (λ n. LeavesOnly (world mid.store) (world new.store) (Keeps (opened_by image) (logged image) led.0 n)) at.2 led.2.inside);
           now = led.2.now;
           again = led.2.again;
           whole = led.2.whole;
@@ -140,11 +142,11 @@ module _ {S : Type 0} (world : S → World) (reading : Reading) (between : Store
       )
 
   -- a rotation that is refused does nothing
-  refused_rotation : (watermark : ℕ) (id : Option ℕ) (x : Error) → id ≡ None → TakesRotate (Refused x) old new → (next : LogPast) × ((mid : LogPast) × AddsRotation (Sealed id) past mid × AddsFlush watermark (Refused x) mid next) × Led world reading between image past next old new
+  refused_rotation : (watermark : ℕ) (id : Option ℕ) (x : Error) → id ≡ None → TakesRotate (Refused x) old new → (next : LogPast) × ((mid : LogPast) × AddsRotation (Sealed id) past mid × AddsFlush old.core.seqno watermark (Refused x) mid next) × Led world reading between image past next old new
   refused_rotation watermark id x none takes =
-      (past, (past, subst (λ i. AddsRotation (Sealed i) past past) (sym none) refl, ⊎_elim (λ e. subst (λ y. AddsFlush watermark (Refused y) past past) (sym e) refl) (λ e. subst (λ y. AddsFlush watermark (Refused y) past past) (sym e) refl) takes.1), same_led world reading between image past old new s rest takes.0)
+      (past, (past, subst (λ i. AddsRotation (Sealed i) past past) (sym none) refl, ⊎_elim (λ e. subst (λ y. AddsFlush old.core.seqno watermark (Refused y) past past) (sym e) refl) (λ e. subst (λ y. AddsFlush old.core.seqno watermark (Refused y) past past) (sym e) refl) takes.1), same_led world reading between image past old new s rest takes.0)
 
-  pub active_leads : (watermark : ℕ) (reply : Reply) → ActsFlushActive watermark reply (world old.store) (world new.store) old new → LeadsOn world reading between image past old new s stored (AddsFlushActive watermark reply past)
+  pub active_leads : (watermark : ℕ) (reply : Reply) → ActsFlushActive watermark reply (world old.store) (world new.store) old new → LeadsOn world reading between image past old new s stored (AddsFlushActive old.core.seqno watermark reply past)
   active_leads watermark (FlushedActive id a) acts = flushed_behind watermark id (FlushedReply a) acts
   active_leads watermark (RefusedActive id x) acts = ⊎_elim (λ r. refused_rotation watermark id x r.0 r.1) (λ both. flushed_behind watermark id (Refused x) both) acts
   active_leads watermark reply acts = absurd acts
@@ -157,7 +159,7 @@ module _ {S : Type 0} (world : S → World) (reading : Reading) (between : Store
   abbrev Leads : (LogPast → Type 0) → Type 0
   Leads = LeadsOn world reading between image past old new s stored
 
-  steady : (watermark : ℕ) (action : Action) → IsCompaction watermark action → is_steady action ≡ true
+  steady : (watermark : ℕ) (action : Action) → IsAnyCompaction watermark action → is_steady action ≡ true
   steady watermark (Merged w d ids evict made) is = refl
   steady watermark (Moved d ids moved) is = refl
   steady watermark (DroppedTables ids) is = refl
@@ -165,24 +167,24 @@ module _ {S : Type 0} (world : S → World) (reading : Reading) (between : Store
 
   -- an action that is a compaction, and tells ranges that may be dropped
   module _ (Ranges : List Range → Type 0) where
-    stood : (watermark : ℕ) (action : Action) → IsCompaction watermark action → IsDrop Ranges old.core.seqno (told_by action old.core) → LeadsByCommit watermark action (told_installed action old.core) [] opened_on past.journal past.notes s.log (world old.store) (world new.store) old new
-        → Leads (AddsInstalled Ranges watermark past)
+    stood : (watermark : ℕ) (action : Action) → IsAnyCompaction watermark action → IsDrop Ranges old.core.seqno (told_by action old.core) → LeadsByCommit watermark action (told_installed action old.core) [] opened_on past.journal past.notes s.log (world old.store) (world new.store) old new
+        → Leads (AddsInstalled Ranges old.core.seqno watermark past)
     stood watermark action is tells l =
         let drop = told_by action old.core in
         let acts : List Act = Did (Marked watermark) ∷ (Did action ∷ (Did (Maintained watermark) ∷ [])) in (
           with_commit watermark (told_installed action old.core) past,
-          (drop, old.core.seqno, tells, refl),
+          (drop, tells, refl),
           quietly world reading between image past old new s stored rest (with_commit watermark (told_installed action old.core) past) acts (tt, (tt, (tt, tt))) (refl, (steady watermark action is, tt)) l refl refl
               (order_dropping opened_on past.journal s.came.order Ranges watermark old.core.seqno drop tells (fresh world reading between image past old new s stored))
               (λ known. answered opened_on s.log acts l.log (tt, (tt, (tt, tt))) l.done (s.came.certain known)),
         )
 
     in_doubt : (watermark : ℕ) (action : Action) → IsDrop Ranges old.core.seqno (told_by action old.core) → LeadsByLost watermark action (told_by action old.core) opened_on past.journal past.notes s.log (world old.store) (world new.store) old new
-        → Leads (AddsCompaction Ranges watermark (Refused CommitUnknown) past)
+        → Leads (AddsCompaction Ranges old.core.seqno watermark (Refused CommitUnknown) past)
     in_doubt watermark action tells l =
         let drop = told_by action old.core in (
           with_doubt watermark drop past,
-          (drop, old.core.seqno, tells, refl),
+          (drop, tells, refl),
           quietly world reading between image past old new s stored rest (with_doubt watermark drop past) (Did (Marked watermark) ∷ (CommitLost action l.0 ∷ [])) (tt, (tt, tt)) (refl, tt) l.1 refl refl
               (order_lost opened_on past.journal s.came.order Ranges watermark old.core.seqno drop tells) (λ known. absurd (cc known)),
         )
@@ -197,11 +199,11 @@ module _ {S : Type 0} (world : S → World) (reading : Reading) (between : Store
       )
 
   -- one whose actions are such
-  module _ (May : Action → Type 0) (Ranges : List Range → Type 0) (watermark : ℕ) (are : (action : Action) → May action → IsCompaction watermark action × IsDrop Ranges old.core.seqno (told_by action old.core)) where
-    by_begun : (begun : Result Begun Error) → CompactsBy May watermark begun (world old.store) (world new.store) old new → Leads (AddsCompaction Ranges watermark (reply_of begun) past)
+  module _ (May : Action → Type 0) (Ranges : List Range → Type 0) (watermark : ℕ) (are : (action : Action) → May action → IsAnyCompaction watermark action × IsDrop Ranges old.core.seqno (told_by action old.core)) where
+    by_begun : (begun : Result Begun Error) → CompactsBy May watermark begun (world old.store) (world new.store) old new → Leads (AddsCompaction Ranges old.core.seqno watermark (reply_of begun) past)
     by_begun begun acts = go begun (acts opened_on (logged image) past.journal past.notes s.log s.is s.keeps s.next (holds world reading between image past old new s stored))
       where
-        go : (begun : Result Begun Error) → ActsByCompaction May watermark begun (world old.store) (world new.store) old new opened_on past.journal past.notes s.log → Leads (AddsCompaction Ranges watermark (reply_of begun) past)
+        go : (begun : Result Begun Error) → ActsByCompaction May watermark begun (world old.store) (world new.store) old new opened_on past.journal past.notes s.log → Leads (AddsCompaction Ranges old.core.seqno watermark (reply_of begun) past)
         go (Ok Installed) a = let d = a.done (inl refl) in let is = are d.0 d.1 in stood Ranges watermark d.0 is.0 is.1 d.2
         go (Ok DidNothing) a = marked watermark (a.told (λ e. cc e))
         go (Ok (Declined why)) a = marked watermark (a.told (λ e. cc e))
@@ -210,32 +212,33 @@ module _ {S : Type 0} (world : S → World) (reading : Reading) (between : Store
         go (Err CommitUnknown) a = let d = a.lost refl in in_doubt Ranges watermark d.0 (are d.0 d.1).1 d.2
         go (Err x) a = marked watermark (a.refused (λ e. cc e) (λ e. cc e))
 
-    compaction_leads : (reply : Reply) → ActsCompaction May watermark reply (world old.store) (world new.store) old new → Leads (AddsCompaction Ranges watermark reply past)
-    compaction_leads reply acts = subst (λ r. Leads (AddsCompaction Ranges watermark r past)) (sym acts.1) (by_begun acts.0 acts.2)
+    compaction_leads : (reply : Reply) → ActsCompaction May watermark reply (world old.store) (world new.store) old new → Leads (AddsCompaction Ranges old.core.seqno watermark reply past)
+    compaction_leads reply acts = subst (λ r. Leads (AddsCompaction Ranges old.core.seqno watermark r past)) (sym acts.1) (by_begun acts.0 acts.2)
 
-  any_are : (watermark : ℕ) (action : Action) → IsCompaction watermark action → IsCompaction watermark action × IsDrop AnyRanges old.core.seqno (told_by action old.core)
-  any_are watermark (Merged w d ids evict made) is = (is, tt)
-  any_are watermark (Moved d ids moved) is = (is, tt)
-  any_are watermark (DroppedTables ids) is = (is, (refl, tt))
-  any_are watermark other is = absurd is
+  chosen_are : (may : Relation Choice) (watermark : ℕ) (action : Action) → IsCompaction (MayDropIds may old.core) watermark action → IsAnyCompaction watermark action × IsDrop (DropsFrom may old.core) old.core.seqno (told_by action old.core)
+  chosen_are may watermark (Merged w d ids evict made) is = (is, tt)
+  chosen_are may watermark (Moved d ids moved) is = (is, tt)
+  chosen_are may watermark (DroppedTables ids) is = (tt, (refl, (ids, is, refl)))
+  chosen_are may watermark other is = absurd is
 
-  pub compact_leads : (watermark : ℕ) (reply : Reply) → ActsCompact watermark reply (world old.store) (world new.store) old new → Leads (AddsCompaction AnyRanges watermark reply past)
-  compact_leads watermark NoStrategy acts = (past, refl, same_led world reading between image past old new s rest acts)
-  compact_leads watermark SlotInUse acts = (past, refl, same_led world reading between image past old new s rest acts)
-  compact_leads watermark reply acts = compaction_leads (IsCompaction watermark) AnyRanges watermark (any_are watermark) reply acts
+  pub compact_leads : (may : Relation Choice) (watermark : ℕ) (reply : Reply) → ActsCompact may watermark reply (world old.store) (world new.store) old new → Leads (AddsCompaction (DropsFrom may old.core) old.core.seqno watermark reply past)
+  compact_leads may watermark NoStrategy acts = (past, refl, same_led world reading between image past old new s rest acts)
+  compact_leads may watermark SlotInUse acts = (past, refl, same_led world reading between image past old new s rest acts)
+  compact_leads may watermark reply acts = compaction_leads (IsCompaction (MayDropIds may old.core) watermark) (DropsFrom may old.core) watermark (chosen_are may watermark) reply acts
 
-  merges_are : (watermark : ℕ) (action : Action) → IsMerging watermark action → IsCompaction watermark action × IsDrop NoRanges old.core.seqno (told_by action old.core)
+  merges_are : (watermark : ℕ) (action : Action) → IsMerging watermark action → IsAnyCompaction watermark action × IsDrop (λ ranges. ⊥) old.core.seqno (told_by action old.core)
   merges_are watermark (Merged w d ids evict made) is = (is, tt)
   merges_are watermark other is = absurd is
 
-  pub major_leads : (watermark : ℕ) (reply : Reply) → ActsCompaction (IsMerging watermark) watermark reply (world old.store) (world new.store) old new → Leads (AddsCompaction NoRanges watermark reply past)
-  major_leads watermark reply acts = compaction_leads (IsMerging watermark) NoRanges watermark (merges_are watermark) reply acts
+  pub major_leads : (watermark : ℕ) (reply : Reply) → ActsCompaction (IsMerging watermark) watermark reply (world old.store) (world new.store) old new → Leads (AddsCompaction (λ ranges. ⊥) old.core.seqno watermark reply past)
+  major_leads watermark reply acts = compaction_leads (IsMerging watermark) (λ ranges. ⊥) watermark (merges_are watermark) reply acts
 
-  drops_are : (bounds : OwnedBounds) (action : Action) → DropsWithin bounds old.core action → IsCompaction 0 action × IsDrop (RangesWithin bounds.start bounds.end) old.core.seqno (told_by action old.core)
-  drops_are bounds (DroppedTables ids) is = (tt, (refl, drop_within bounds ids (levels_of old.core) is.1 is.0))
-  drops_are bounds other is = absurd is
+  abbrev Within : Bound Bytes → Bound Bytes → List Range → Type 0
+  Within low high ranges = ranges ≡ ranges_within low high (levels_of old.core)
 
-  pub drop_leads : (low high : Bound Bytes) (reply : Reply) → ActsCompaction (DropsWithin (record { start = low; end = high }) old.core) 0 reply (world old.store) (world new.store) old new → Leads (AddsCompaction (RangesWithin low high) 0 reply past)
-  drop_leads low high reply acts =
-      let bounds : OwnedBounds = record { start = low; end = high } in
-      compaction_leads (DropsWithin bounds old.core) (RangesWithin low high) 0 (drops_are bounds) reply acts
+  drops_are : (low high : Bound Bytes) (action : Action) → DropsWithin (record { start = low; end = high }) old.core action → IsAnyCompaction 0 action × IsDrop (Within low high) old.core.seqno (told_by action old.core)
+  drops_are low high (DroppedTables ids) is = (tt, (refl, told_exactly (record { start = low; end = high }) ids (levels_of old.core) is.1 is.0))
+  drops_are low high other is = absurd is
+
+  pub drop_leads : (low high : Bound Bytes) (reply : Reply) → ActsCompaction (DropsWithin (record { start = low; end = high }) old.core) 0 reply (world old.store) (world new.store) old new → Leads (AddsCompaction (Within low high) old.core.seqno 0 reply past)
+  drop_leads low high reply acts = compaction_leads (DropsWithin (record { start = low; end = high }) old.core) (Within low high) 0 (drops_are low high) reply acts

@@ -10,6 +10,7 @@ use Rattle.lsm_runs.specs.declared.slots.Job.TheVariants.{Compacted as Compacted
 use Rattle.lsm_runs.specs.declared.steps.Reply.{Reply}
 use Rattle.lsm_runs.specs.Compacting.{Strategies, strategies_of, relation_of, reply_of, end_reply_of}
 use Rattle.lsm_state.specs.Compactions.{Relation}
+use Rattle.lsm_state.specs.Dropping.{MayDropIds}
 use Rattle.lsm_state.specs.WholeCompactions.{Compacts, options_at}
 use Rattle.lsm_state.specs.declared.compaction.Begun.{Begun}
 use Rattle.lsm_state.specs.declared.compaction.Begun.TheVariants.{DidNothing, Declined, Installed, Job as BegunJob}
@@ -27,6 +28,11 @@ pub asked_at : {B S : Type 0} (may_choose : B → Relation Choice) (may_refuse :
     → slice_get list at ≡ Some strategy → Asks begun old new (Call (may_choose strategy) (may_refuse strategy)) → Asks begun old new (Call ((strategies_of may_choose may_refuse list).may_choose at) ((strategies_of may_choose may_refuse list).may_refuse at))
 asked_at {B} may_choose may_refuse list at strategy Call begun old new is asks = subst (λ (o : Option B). Asks begun old new (Call (relation_of may_choose o) (relation_of may_refuse o))) (sym is) asks
 
+-- so the relation of the strategy at an index is that of the strategy
+pub acts_at : {B S : Type 0} (may_choose : B → Relation Choice) (may_refuse : B → Relation ChooseError) (list : List B) (at : ℕ) (strategy : B) (watermark : ℕ) (reply : Reply) (w w' : World) (old new : SeenLogged S)
+    → slice_get list at ≡ Some strategy → ActsCompact (may_choose strategy) watermark reply w w' old new → ActsCompact ((strategies_of may_choose may_refuse list).may_choose at) watermark reply w w' old new
+acts_at {B} may_choose may_refuse list at strategy watermark reply w w' old new is acts = subst (λ (o : Option B). ActsCompact (relation_of may_choose o) watermark reply w w' old new) (sym is) acts
+
 module _ {S : Type 0} (old new : SeenLogged S) (reply : Reply) (begun : Result Begun Error) (told : reply ≡ reply_of begun) where
   pub compact_taken : (strategies : Strategies) (at watermark : ℕ) → at < strategies.count → Asks begun old new (Compacts (strategies.may_choose at) (strategies.may_refuse at) (options_at watermark old.core) begun old.core new.core) → TakesCompact strategies at watermark reply old new
   compact_taken strategies at watermark there asks = subst (λ r. TakesCompact strategies at watermark r old new) (sym told) (go begun asks)
@@ -38,10 +44,10 @@ module _ {S : Type 0} (old new : SeenLogged S) (reply : Reply) (begun : Result B
       go (Ok (BegunJob job)) a = (there, (Ok (BegunJob job), refl, a))
       go (Err x) a = (there, (Err x, refl, a))
 
-  pub compact_acts : (w w' : World) (watermark : ℕ) → CompactsAct watermark begun w w' old new → ActsCompact watermark reply w w' old new
-  compact_acts w w' watermark acts = subst (λ r. ActsCompact watermark r w w' old new) (sym told) (go begun acts)
+  pub compact_acts : (w w' : World) (may : Relation Choice) (watermark : ℕ) → CompactsAct (MayDropIds may old.core) watermark begun w w' old new → ActsCompact may watermark reply w w' old new
+  compact_acts w w' may watermark acts = subst (λ r. ActsCompact may watermark r w w' old new) (sym told) (go begun acts)
     where
-      go : (b : Result Begun Error) → CompactsAct watermark b w w' old new → ActsCompact watermark (reply_of b) w w' old new
+      go : (b : Result Begun Error) → CompactsAct (MayDropIds may old.core) watermark b w w' old new → ActsCompact may watermark (reply_of b) w w' old new
       go (Ok DidNothing) a = (Ok DidNothing, refl, a)
       go (Ok (Declined why)) a = (Ok (Declined why), refl, a)
       go (Ok Installed) a = (Ok Installed, refl, a)

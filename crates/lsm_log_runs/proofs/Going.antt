@@ -10,11 +10,13 @@ use Rattle.lsm_model.specs.Soundness.{Soundness}
 use Rattle.lsm_log_model.specs.Records.{LogImage, LogStands, logged, opened_by}
 use Rattle.lsm_log_model.specs.Logs.{Logged as Log, LogIsSound, MayBeDrawn, Act, AllActs, MayLeave}
 use Rattle.lsm_log_model.specs.Joins.{ActsJoin, CounterStaysAbove, LogStaysSound}
+use Rattle.lsm_log_model.specs.Numbered.{AreBelow, LeftIsNumbered}
 use Rattle.lsm_log_model.specs.Replays.{IsReopened}
 use Rattle.lsm_log_model.specs.Recovery.{EveryCrashKeepsBatches, WholeIsLogged, LoggedReadsRight, LogRecovers}
 use Rattle.lsm_log_model.proofs.Growth.{acts_order}
 use Rattle.lsm_logged.specs.Acting.{DrawBelow}
 use Rattle.lsm_log_runs.specs.CameAbout.{LogCameAbout}
+use Rattle.lsm_log_runs.specs.Images.{HoldsPast}
 use Rattle.lsm_log_runs.specs.Pasts.{LogPast, acknowledged, past_of}
 
 -- what the theory of the log knows
@@ -26,6 +28,7 @@ pub record Theory : Type 0 where
   pub crashes : EveryCrashKeepsBatches
   pub whole : WholeIsLogged
   pub reads : LoggedReadsRight
+  pub numbered : LeftIsNumbered
 
 module _ (theory : Theory) (image : LogImage) where
   abbrev opened : List Entry
@@ -70,16 +73,21 @@ module _ (theory : Theory) (image : LogImage) where
   pub log_sound : (past : LogPast) (t : Log) → LogCameAbout image past t → LogIsSound t
   log_sound past t came = theory.stays image came.first t came.acts came.stands came.reopened came.done (came_order past t came)
 
-  -- in acts a crash leaves a beginning that holds what was acknowledged before them
+  -- in acts a crash leaves a beginning that holds what was acknowledged before them, and is numbered as they are
   pub left_inside : (past next : LogPast) (t new : Log) (acts : List Act) (left : LogImage) → LogCameAbout image past t → AllActs opened t acts new → past_of next.known next.begun new ≡ next → InOrder opened next.journal → MayLeave t left ⊎ MayLeave new left
-      → LogRecovers (logged image) next.journal next.notes next.lost (acknowledged past) left
+      → HoldsPast opened (logged image) next (acknowledged past) left
   left_inside past next t new acts left came done is order may =
-      let recovers = theory.crashes image came.first t new came.acts acts came.stands came.reopened came.done done (tree_order next new is order) left (theory.joins.ends left opened t new acts done may) in
-      subst (λ (p : LogPast). LogRecovers (logged image) next.journal next.notes next.lost (acknowledged p) left) came.past_is
-      (subst (λ (p : LogPast). LogRecovers (logged image) p.journal p.notes p.lost (acknowledged (past_of past.known past.begun t)) left) is recovers)
+      let ends = theory.joins.ends left opened t new acts done may in
+      let in_order = tree_order next new is order in
+      let recovers = theory.crashes image came.first t new came.acts acts came.stands came.reopened came.done done in_order left ends in
+      record {
+        recovers = subst (λ (p : LogPast). LogRecovers (logged image) next.journal next.notes next.lost (acknowledged p) left) came.past_is
+            (subst (λ (p : LogPast). LogRecovers (logged image) p.journal p.notes p.lost (acknowledged (past_of past.known past.begun t)) left) is recovers);
+        numbered = λ n below. theory.numbered image came.first t new came.acts acts came.stands came.reopened came.done done in_order n (subst (λ (p : LogPast). AreBelow n opened p.journal p.lost) (sym is) below) left ends;
+      }
 
   -- and after them all that is acknowledged then
-  pub left_now : (past : LogPast) (t : Log) (left : LogImage) → LogCameAbout image past t → MayLeave t left → LogRecovers (logged image) past.journal past.notes past.lost (acknowledged past) left
+  pub left_now : (past : LogPast) (t : Log) (left : LogImage) → LogCameAbout image past t → MayLeave t left → HoldsPast opened (logged image) past (acknowledged past) left
   left_now past t left came may = left_inside past past t t [] left came refl came.past_is came.order (inl may)
 
   pub left_whole : (past : LogPast) (t : Log) (left : LogImage) → LogCameAbout image past t → past.known ≡ true → MayLeave t left → (k : Bytes) → is_spared k past.journal [] ≡ true → get (logged left) k ≡ get (beginning (logged image) past.journal) k

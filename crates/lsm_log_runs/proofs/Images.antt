@@ -26,9 +26,10 @@ use Rattle.lsm_logged.specs.Meanwhile.{ReadsVersion}
 use Rattle.lsm_logged.specs.Opening.{image_read}
 use Rattle.lsm_logged.proofs.Found.{number_of, in_map}
 use Rattle.lsm_log_runs.specs.Images.{ReadsLog, HoldsLogged}
+use Rattle.lsm_log_runs.proofs.Reading.{records_read}
 
 pub held_weaker : (P Q : LogImage → Type 0) (image : Image) → ((left : LogImage) → P left → Q left) → HoldsLogged P image → HoldsLogged Q image
-held_weaker P Q image f h = record { finds = h.finds; good = h.good; reads = λ v records r. f (image_read v records) (h.reads v records r) }
+held_weaker P Q image f h = record { finds = h.finds; log = h.log; good = h.good; reads = λ v records r. f (image_read v records) (h.reads v records r) }
 
 in_one : {A : Type 0} (x : A) (o : Option A) → IsIn x (option_to_list o) → o ≡ Some x
 in_one x None i = absurd i
@@ -134,4 +135,11 @@ module _ (once : VersionIsToldOnce) (those : RecordsAreThoseRead) (journal : Lis
 
   -- an opening takes the image, and what it reads there is what a crash may leave
   pub holds_may : HoldsLogged (MayLeave t) image
-  holds_may = record { finds = record { version = u; read = finds_one; found = Named u.id (named_levels u.levels) stands; stands = u_stands }; good = not_bad; reads = λ v records r. may_leave v r.version records r }
+  holds_may =
+      let read = records_read image t holds.1 u.log_from (low_of u.log_from (placed_of u.levels) is_of) sound.rising in
+      record {
+        finds = record { version = u; read = finds_one; found = Named u.id (named_levels u.levels) stands; stands = u_stands };
+        log = (read.0, record { version = finds_one; log = read.1 });
+        good = not_bad;
+        reads = λ v records r. may_leave v r.version records r;
+      }

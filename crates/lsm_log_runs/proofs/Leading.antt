@@ -1,5 +1,6 @@
 -- How a call that leads by acts goes on from what stands, and what a crash leaves in it and after it.
-use Rattle.std.proofs.Common.{◌≡◌, ◌⊎◌, ⊎_elim, inl, inr, ℕ, ◌≤◌, true, List, [], ◌++◌, Option, refl, sym, ap, ◌∙◌, subst, arith}
+use Rattle.std.proofs.Common.{◌≡◌, ◌⊎◌, ⊎_elim, inl, inr, ℕ, ◌≤◌, ◌^◌, true, List, [], ◌++◌, Option, refl, sym, ap, ◌∙◌, subst, arith}
+use Rattle.std.specs.List.{AllByRecursion}
 use Rattle.lsm_below.specs.Entries.{Entry}
 use Rattle.lsm_store.specs.World.{Image, World, IsImage, LeavesOnly}
 use Rattle.lsm_store.specs.Moments.{weakened}
@@ -12,8 +13,8 @@ use Rattle.lsm_commit.specs.Foreign.{AtRest}
 use Rattle.lsm_commit.specs.Opening.{StoredIsReady}
 use Rattle.lsm_commit.specs.Stored.{HoldsOneOf}
 use Rattle.lsm_log_model.specs.Logs.{Logged as Log, LostBatch, Act, MayLeave, IsCertain}
+use Rattle.lsm_log_model.specs.Numbered.{AreBelow}
 use Rattle.lsm_log_model.specs.Records.{LogImage, LogStands, logged, opened_by}
-use Rattle.lsm_log_model.specs.Recovery.{LogRecovers}
 use Rattle.lsm_run_model.specs.Lives.{LeavesReady}
 use Rattle.lsm_run_model.specs.Moments.{LeavesNow}
 use Rattle.lsm_runs.specs.Files.{StaysStored}
@@ -28,7 +29,7 @@ use Rattle.lsm_logged.specs.Meanwhile.{ReadsVersion}
 use Rattle.lsm_logged.specs.Opening.{CanBeSettled}
 use Rattle.lsm_logged.proofs.NoActs.{unsure_not}
 use Rattle.lsm_log_runs.specs.CameAbout.{LogCameAbout}
-use Rattle.lsm_log_runs.specs.Images.{HoldsLogged, Keeps, KeepsAll, MayBeOpened}
+use Rattle.lsm_log_runs.specs.Images.{HoldsLogged, HoldsPast, Keeps, KeepsAll, IsSmall, MayBeOpened}
 use Rattle.lsm_log_runs.specs.Leading.{SparesAnswers}
 use Rattle.lsm_log_runs.specs.Pasts.{LogPast, acknowledged, past_of}
 use Rattle.lsm_log_runs.specs.Standing.{StandsLogged}
@@ -36,6 +37,7 @@ use Rattle.lsm_log_runs.proofs.Advancing.{Advances, advances_apart}
 use Rattle.lsm_log_runs.proofs.Beside.{IsBeside, beside}
 use Rattle.lsm_log_runs.proofs.Going.{Theory, tree_order, goes_on, counter_on, log_sound, left_inside, left_now, left_whole, holds_on}
 use Rattle.lsm_log_runs.proofs.Images.{held_weaker, holds_may, reads_no_lower}
+use Rattle.lsm_log_runs.proofs.Numbers.{IsBatchBelow, acts_below}
 use Rattle.lsm_log_runs.proofs.Settling.{stands_opens}
 use Rattle.lsm_log_runs.proofs.Sparing.{ForgetLast, acts_spared, spares_by}
 
@@ -81,10 +83,10 @@ module _ {S : Type 0} (world : S → World) (reading : Reading) (between : Store
 
   -- an image with a version of the tree and its log is one that the logged tree of the theory may leave
   held_may : (past : LogPast) (t : SeenLogged S) (log : Log) → LogCameAbout image past log → IsLogOf past.journal past.notes t.core t.doubted log → (left : Image) → HoldsLog t.core log left → HoldsLogged (MayLeave log) left
-  held_may past t log came is left holds = holds_may reading.once reading.those past.journal past.notes t.core t.doubted log is (log_sound reading.theory image past log came) (beside_it past log came).other (λ x may. (left_now reading.theory image past log x came may).stands.stands) left holds
+  held_may past t log came is left holds = holds_may reading.once reading.those past.journal past.notes t.core t.doubted log is (log_sound reading.theory image past log came) (beside_it past log came).other (λ x may. (left_now reading.theory image past log x came may).recovers.stands.stands) left holds
 
   low_read : (past : LogPast) (t : SeenLogged S) (log : Log) → LogCameAbout image past log → IsLogOf past.journal past.notes t.core t.doubted log → (left : Image) → HoldsLog t.core log left → (v : SeenVersion) → ReadsVersion left v → log.log_from ≤ v.log_from
-  low_read past t log came is left holds v reads = reads_no_lower reading.once reading.those past.journal past.notes t.core t.doubted log is (log_sound reading.theory image past log came) (beside_it past log came).other (λ x may. (left_now reading.theory image past log x came may).stands.stands) left holds v reads
+  low_read past t log came is left holds v reads = reads_no_lower reading.once reading.those past.journal past.notes t.core t.doubted log is (log_sound reading.theory image past log came) (beside_it past log came).other (λ x may. (left_now reading.theory image past log x came may).recovers.stands.stands) left holds v reads
 
   -- ---- now
 
@@ -95,9 +97,9 @@ module _ {S : Type 0} (world : S → World) (reading : Reading) (between : Store
       let l = unsure_not world (record { store = t.store; core = t.core }) t.numbers t.doubted t refl (upheld_still w t.core t.core refl refl rest) opened past.journal past.notes s.log s.is s.keeps in
       ⊎_elim (λ (h : HoldsLog t.core s.log left). h) (λ (h : HoldsLog t.core l.log left). subst (λ (x : Log). HoldsLog t.core x left) l.done h) ((l.moments s.stored).each left since)
 
-  pub keeps_now : (past : LogPast) (t : SeenLogged S) → StandsLogged world image past t → AtRest (world t.store) → LeavesNow (world t.store) (Keeps (logged image) past (acknowledged past))
+  pub keeps_now : (past : LogPast) (t : SeenLogged S) → StandsLogged world image past t → AtRest (world t.store) → LeavesNow (world t.store) (Keeps opened (logged image) past (acknowledged past))
   keeps_now past t s rest left since =
-      held_weaker (MayLeave s.log) (LogRecovers (logged image) past.journal past.notes past.lost (acknowledged past)) left (λ x may. left_now reading.theory image past s.log x s.came may)
+      held_weaker (MayLeave s.log) (HoldsPast opened (logged image) past (acknowledged past)) left (λ x may. left_now reading.theory image past s.log x s.came may)
       (held_may past t s.log s.came s.is left (leaves_log past t s rest left since))
 
   pub keeps_all : (past : LogPast) (t : SeenLogged S) → StandsLogged world image past t → AtRest (world t.store) → past.known ≡ true → LeavesNow (world t.store) (KeepsAll (logged image) past)
@@ -110,22 +112,26 @@ module _ {S : Type 0} (world : S → World) (reading : Reading) (between : Store
   opens_now past t s rest =
       let w = world t.store in
       let beside_versions : (left : Image) → IsImage w.may left → HoldsLog t.core s.log left = λ left may. leaves_log past t s rest left (between.counts_now t.store w.moment left (omega arith) may) in
+      let leaves : (left : Image) → IsImage w.may left → HoldsLogged (MayLeave s.log) left = λ left may. held_may past t s.log s.came s.is left (beside_versions left may) in
       record {
-        ready = between.ready t.store (versions_left t.core) (written_of t.core) s.stored;
-        stands = λ left may. held_weaker (MayLeave s.log) LogStands left (λ x m. (left_now reading.theory image past s.log x s.came m).stands) (held_may past t s.log s.came s.is left (beside_versions left may));
-        settles = λ left v may reads. between.kept t.store s.log v.log_from s.keeps (low_read past t s.log s.came s.is left (beside_versions left may) v reads);
+        read = record {
+          ready = between.ready t.store (versions_left t.core) (written_of t.core) s.stored;
+          stands = λ left may. held_weaker (MayLeave s.log) LogStands left (λ x m. (left_now reading.theory image past s.log x s.came m).recovers.stands) (leaves left may);
+          settles = λ left v may reads. between.kept t.store s.log v.log_from s.keeps (low_read past t s.log s.came s.is left (beside_versions left may) v reads);
+        };
+        small = λ left may. held_weaker (MayLeave s.log) IsSmall left (λ x m. (left_now reading.theory image past s.log x s.came m).numbered (2 ^ 63) s.small) (leaves left may);
       }
 
   -- ---- a call
 
   abbrev Recovers : LogPast → LogPast → LogImage → Type 0
-  Recovers past next = LogRecovers (logged image) next.journal next.notes next.lost (acknowledged past)
+  Recovers past next = HoldsPast opened (logged image) next (acknowledged past)
 
   -- what comes of it
   pub record Led (past next : LogPast) (old new : SeenLogged S) : Type 0 where
     pub stands : StandsLogged world image next new
-    pub inside : LeavesOnly (world old.store) (world new.store) (Keeps (logged image) next (acknowledged past))
-    pub now : LeavesNow (world new.store) (Keeps (logged image) next (acknowledged next))
+    pub inside : LeavesOnly (world old.store) (world new.store) (Keeps opened (logged image) next (acknowledged past))
+    pub now : LeavesNow (world new.store) (Keeps opened (logged image) next (acknowledged next))
     pub again : MayBeOpened (world new.store)
     pub whole : next.known ≡ true → LeavesNow (world new.store) (KeepsAll (logged image) next)
     pub versions : LeavesOnly (world old.store) (world new.store) (HoldsOneOf (versions_left old.core ++ versions_left new.core))
@@ -135,13 +141,19 @@ module _ {S : Type 0} (world : S → World) (reading : Reading) (between : Store
   pub killed : (past next : LogPast) (old new : SeenLogged S) → StandsLogged world image past old → Advances old.core new.core → Led past next old new → LeavesReady MayBeOpened (λ (t : SeenLogged S). world t.store) old new
   killed past next old new s makes led cut ends =
       stands_opens reading.found reading.unread (world cut.store)
-      (λ left may. held_weaker _ LogStands left (λ x recovers. recovers.stands) (led.inside.each left (ends.each left may)))
+      (λ left may. held_weaker _ LogStands left (λ x holds. holds.recovers.stands) (led.inside.each left (ends.each left may)))
+      (λ left may. held_weaker _ IsSmall left (λ x holds. holds.numbered (2 ^ 63) led.stands.small) (led.inside.each left (ends.each left may)))
       (holding_ready reading.found (versions_left old.core ++ versions_left new.core) (advances_apart old.core new.core makes s.apart) (world cut.store) (λ left may. led.versions.each left (ends.each left may)))
 
   module _ (past next : LogPast) (old new : SeenLogged S) (s : StandsLogged world image past old) (acts : List Act) (l : LeadsBy opened next.journal next.notes s.log acts (world old.store) (world new.store) old new) (is : past_of next.known next.begun l.log ≡ next)
-      (order : InOrder opened next.journal) (certain : next.known ≡ true → IsCertain l.log) (stored : StepFiles world old new) where
+      (order : InOrder opened next.journal) (certain : next.known ≡ true → IsCertain l.log) (stored : StepFiles world old new) (small : AllByRecursion (IsBatchBelow (2 ^ 63)) acts) where
     came_on : LogCameAbout image next l.log
     came_on = goes_on reading.theory image past next s.log l.log acts s.came l.done order is certain
+
+    small_on : AreBelow (2 ^ 63) opened next.journal next.lost
+    small_on =
+        let before = subst (λ (p : LogPast). AreBelow (2 ^ 63) opened p.journal p.lost) (sym s.came.past_is) s.small in
+        subst (λ (p : LogPast). AreBelow (2 ^ 63) opened p.journal p.lost) is (acts_below (2 ^ 63) opened s.log acts l.log l.done small before)
 
     pub stands_on : StandsLogged world image next new
     stands_on = record {
@@ -152,9 +164,10 @@ module _ {S : Type 0} (world : S → World) (reading : Reading) (between : Store
       next = counter_on reading.theory image past next s.log l.log acts old.core.seqno new.core.seqno s.came l.done is order s.next l.counter l.drawn;
       stored = stored.stays s.stored;
       apart = λ v w i j. advances_apart old.core new.core stored.makes s.apart v w (is_in_behind v (versions_left old.core) (versions_left new.core) i) (is_in_behind w (versions_left old.core) (versions_left new.core) j);
+      small = small_on;
     }
 
-    left_in : (left : Image) → HoldsLog old.core s.log left ⊎ HoldsLog new.core l.log left → Keeps (logged image) next (acknowledged past) left
+    left_in : (left : Image) → HoldsLog old.core s.log left ⊎ HoldsLog new.core l.log left → Keeps opened (logged image) next (acknowledged past) left
     left_in left either = ⊎_elim
         (λ (h : HoldsLog old.core s.log left). held_weaker (MayLeave s.log) (Recovers past next) left (λ x may. left_inside reading.theory image past next s.log l.log acts x s.came l.done is order (inl may)) (held_may past old s.log s.came s.is left h))
         (λ (h : HoldsLog new.core l.log left). held_weaker (MayLeave l.log) (Recovers past next) left (λ x may. left_inside reading.theory image past next s.log l.log acts x s.came l.done is order (inr may)) (held_may next new l.log came_on l.is left h))
@@ -168,7 +181,7 @@ module _ {S : Type 0} (world : S → World) (reading : Reading) (between : Store
     pub leads_on : ForgetLast acts → AtRest (world new.store) → Led past next old new
     leads_on last rest = record {
       stands = stands_on;
-      inside = weakened (world old.store) (world new.store) (λ left. HoldsLog old.core s.log left ⊎ HoldsLog new.core l.log left) (Keeps (logged image) next (acknowledged past)) (l.moments s.stored) left_in;
+      inside = weakened (world old.store) (world new.store) (λ left. HoldsLog old.core s.log left ⊎ HoldsLog new.core l.log left) (Keeps opened (logged image) next (acknowledged past)) (l.moments s.stored) left_in;
       now = keeps_now next new stands_on rest;
       again = opens_now next new stands_on rest;
       whole = keeps_all next new stands_on rest;
@@ -180,11 +193,11 @@ module _ {S : Type 0} (world : S → World) (reading : Reading) (between : Store
   -- where nothing is done
   pub nothing_stands : (past : LogPast) (old new : SeenLogged S) (s : StandsLogged world image past old) → LeadsBy opened past.journal past.notes s.log [] (world old.store) (world new.store) old new → StepFiles world old new → StandsLogged world image past new
   nothing_stands past old new s l stored =
-      stands_on past past old new s [] l (ap (past_of past.known past.begun) l.done ∙ s.came.past_is) s.came.order (λ known. subst IsCertain (sym l.done) (s.came.certain known)) stored
+      stands_on past past old new s [] l (ap (past_of past.known past.begun) l.done ∙ s.came.past_is) s.came.order (λ known. subst IsCertain (sym l.done) (s.came.certain known)) stored tt
 
   pub nothing_led : (past : LogPast) (old new : SeenLogged S) (s : StandsLogged world image past old) → LeadsBy opened past.journal past.notes s.log [] (world old.store) (world new.store) old new → StepFiles world old new → AtRest (world new.store) → Led past past old new
   nothing_led past old new s l stored rest =
-      leads_on past past old new s [] l (ap (past_of past.known past.begun) l.done ∙ s.came.past_is) s.came.order (λ known. subst IsCertain (sym l.done) (s.came.certain known)) stored tt rest
+      leads_on past past old new s [] l (ap (past_of past.known past.begun) l.done ∙ s.came.past_is) s.came.order (λ known. subst IsCertain (sym l.done) (s.came.certain known)) stored tt tt rest
 
   -- where the tree is as it was
   pub still_led : (past : LogPast) (old : SeenLogged S) → StandsLogged world image past old → AtRest (world old.store) → Led past past old old

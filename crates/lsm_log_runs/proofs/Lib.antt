@@ -1,6 +1,8 @@
 pub mod Beside
 pub mod Advancing
+pub mod Numbers
 pub mod Going
+pub mod Reading
 pub mod Images
 pub mod Settling
 pub mod Sparing
@@ -12,10 +14,13 @@ pub mod Rotations
 pub mod Growing
 pub mod Waiting
 pub mod Closing
+pub mod Exactly
 pub mod CommitLeads
 pub mod Compacting
 pub mod JobLeads
 pub mod Causing
+pub mod Counting
+pub mod Allowing
 pub mod Runs
 pub mod Opening
 pub mod Crashed

@@ -23,6 +23,7 @@ use Rattle.lsm_logged.specs.Keeping.{SeenLogged}
 use Rattle.lsm_log_runs.specs.declared.steps.LogStep.{LogStep}
 use Rattle.lsm_log_runs.specs.declared.steps.LogStep.TheVariants.{Write, RotateMemtable, AtSlot, Flush, FlushActiveMemtable, Compact, MajorCompact, DropRange, Clear, GetNextTableId, SetMoment, IsUncertain}
 use Rattle.lsm_log_runs.specs.Adds.{Adds}
+use Rattle.lsm_log_runs.specs.Dropping.{DropsBy}
 use Rattle.lsm_log_runs.specs.Doing.{ActsAlone, StepDoes, AllDoes, RanTo}
 use Rattle.lsm_log_runs.specs.Moments.{Answers, MayBeTried, StepKeeps}
 use Rattle.lsm_log_runs.specs.Pasts.{LogPast}
@@ -34,6 +35,8 @@ use Rattle.lsm_log_runs.specs.Standing.{StandsLogged}
 use Rattle.lsm_log_runs.proofs.Advancing.{Advances, step_advances}
 use Rattle.lsm_log_runs.proofs.Beside.{beside, is_high}
 use Rattle.lsm_log_runs.proofs.Closing.{closed_stands, ends_closes}
+use Rattle.lsm_runs.proofs.Drawing.{Near}
+use Rattle.lsm_log_runs.proofs.Counting.{step_near}
 use Rattle.lsm_log_runs.proofs.CommitLeads.{rotate_leads, active_leads, compact_leads, major_leads, drop_leads}
 use Rattle.lsm_log_runs.proofs.Going.{holds_on}
 use Rattle.lsm_log_runs.proofs.Growing.{step_grows}
@@ -119,17 +122,17 @@ module _ {S : Type 0} (strategies : Strategies) (tells : Type 0) (world : S → 
 
     -- what a step is known to add, and what comes of it
     abbrev LeadsTo : LogStep → Reply → LogPast → SeenLogged S → SeenLogged S → Type 0
-    LeadsTo x r past old new = (next : LogPast) × Adds x r past next × Led world reading between image past next old new
+    LeadsTo x r past old new = (next : LogPast) × Adds (DropsBy strategies old.core x) old.core.seqno x r past next × Led world reading between image past next old new
 
     -- one that needs no slot
     module _ (past : LogPast) (old new : SeenLogged S) (s : StandsLogged world image past old) (stored : StepFiles world old new) (rest : AtRest (world new.store)) where
-      alone_leads : (x : LogStep) (r : Reply) → TakesAlone strategies x r old new → ActsAlone x r (world old.store) (world new.store) old new → MayBeTried opened past.journal x → LeadsTo x r past old new
+      alone_leads : (x : LogStep) (r : Reply) → TakesAlone strategies x r old new → ActsAlone strategies x r (world old.store) (world new.store) old new → MayBeTried opened past.journal x → LeadsTo x r past old new
       alone_leads (Write ops) r takes acts tried = batch_leads world reading between image past old new s stored rest ops tried r takes acts
       alone_leads (Flush n) r takes acts tried = flush_leads world reading between image past old new s stored rest n r acts
       alone_leads Clear r takes acts tried = clear_leads world reading between image past old new s stored rest r takes acts
       alone_leads RotateMemtable r takes acts tried = rotate_leads world reading between image past old new s rest r takes acts
       alone_leads (FlushActiveMemtable n) r takes acts tried = active_leads world reading between image past old new s stored rest n r acts
-      alone_leads (Compact at n) r takes acts tried = compact_leads world reading between image past old new s stored rest n r acts
+      alone_leads (Compact at n) r takes acts tried = compact_leads world reading between image past old new s stored rest (strategies.may_choose at) n r acts
       alone_leads (MajorCompact target n) r takes acts tried = major_leads world reading between image past old new s stored rest n r acts
       alone_leads (DropRange low high) r takes acts tried = drop_leads world reading between image past old new s stored rest low high r acts
       alone_leads GetNextTableId r takes acts tried = (past, refl, nothing_led world reading between image past old new s (acts opened past.journal past.notes s.log s.is s.keeps) stored rest)
@@ -137,13 +140,15 @@ module _ {S : Type 0} (strategies : Strategies) (tells : Type 0) (world : S → 
       alone_leads (AtSlot slot step) r takes acts tried = absurd takes
       alone_leads x r takes acts tried = (past, refl, same_led world reading between image past old new s rest acts)
 
-    keeps : (past next : LogPast) (x : LogStep) (r : Reply) (old new : SeenLogged S) → StandsLogged world image past old → Advances old.core new.core → Adds x r past next → Answers opened (logged image) past.journal x r → Led world reading between image past next old new
-        → StepKeeps (λ t. world t.store) opened (logged image) x r past next old new
-    keeps past next x r old new s makes adds answers led = record {
+    keeps : (past next : LogPast) (x : LogStep) (r : Reply) (old new : SeenLogged S) → StandsLogged world image past old → Advances old.core new.core → Near old.core.seqno new.core.seqno → Adds (DropsBy strategies old.core x) old.core.seqno x r past next → Answers opened (logged image) past.journal x r → Led world reading between image past next old new
+        → StepKeeps (DropsBy strategies old.core x) old.core.seqno new.core.seqno (λ t. world t.store) opened (logged image) x r past next old new
+    keeps past next x r old new s makes near adds answers led = record {
       adds = adds;
+      draws = near;
       answers = answers;
       inside = led.inside;
       now = led.now;
+      small = led.stands.small;
       again = led.again;
       kills = killed world reading between image past next old new s makes led;
       whole = led.whole;
@@ -151,33 +156,33 @@ module _ {S : Type 0} (strategies : Strategies) (tells : Type 0) (world : S → 
 
     -- what a step keeps, what stands after it, and what waits then
     abbrev Goes : LogStep → Reply → LogPast → LogStage S → LogStage S → Type 0
-    Goes x r past old new = (next : LogPast) × StepKeeps (λ t. world t.store) opened (logged image) x r past next old.tree new.tree × SparesAnswers past next old.tree.core new.tree.core × StandsLogged world image next new.tree × AreWaiting next new.jobs
+    Goes x r past old new = (next : LogPast) × StepKeeps (DropsBy strategies old.tree.core x) old.tree.core.seqno new.tree.core.seqno (λ t. world t.store) opened (logged image) x r past next old.tree new.tree × SparesAnswers past next old.tree.core new.tree.core × StandsLogged world image next new.tree × AreWaiting next new.jobs
 
     -- a step that is taken from what stands
     step_leads : (past : LogPast) (x : LogStep) (r : Reply) (old new : LogStage S) → StandsLogged world image past old.tree → AreWaiting past old.jobs → StepDoes strategies tells world x r old new → MayBeTried opened past.journal x → Goes x r past old new
     step_leads past (AtSlot slot step) r old new s waits does tried =
         let makes = step_advances strategies (AtSlot slot step) r old new does.takes in
         let files : StepFiles world old.tree new.tree = record { stays = does.stored told; makes = makes } in
-        let led = job_leads world reading between image past old.tree new.tree s files (does.rest told) slot step r (old.jobs slot) (waits slot) (does.acts told) in
-        let here = job_waits marks slot past led.0 (old.jobs slot) (new.jobs slot) (waits slot) old.tree new.tree (sealed_are world reading between image past old.tree new.tree s files) strategies step r does.takes.0 led.1 in (
+        let led = job_leads world reading between image past old.tree new.tree s files (does.rest told) strategies slot step r (old.jobs slot) (waits slot) (does.acts told) in
+        let here = job_waits marks (DropsBy strategies old.tree.core (AtSlot slot step)) old.tree.core.seqno slot past led.0 (old.jobs slot) (new.jobs slot) (waits slot) old.tree new.tree (sealed_are world reading between image past old.tree new.tree s files) strategies step r does.takes.0 led.1 in (
           led.0,
-          keeps past led.0 (AtSlot slot step) r old.tree new.tree s makes led.1 tt led.2,
+          keeps past led.0 (AtSlot slot step) r old.tree new.tree s makes (step_near strategies (AtSlot slot step) r old new does.takes) led.1 tt led.2,
           led.2.spares,
           led.2.stands,
-          slot_waiting marks slot past led.0 old.jobs new.jobs (step_grows (AtSlot slot step) r past led.0 led.1) does.takes.1 here waits,
+          slot_waiting marks slot past led.0 old.jobs new.jobs (step_grows (DropsBy strategies old.tree.core (AtSlot slot step)) old.tree.core.seqno (AtSlot slot step) r past led.0 led.1) does.takes.1 here waits,
         )
     step_leads past x r old new s waits does tried =
         let makes = step_advances strategies x r old new does.takes in
         let led = alone_leads past old.tree new.tree s (record { stays = does.stored told; makes = makes }) (does.rest told) x r does.takes.0 (does.acts told) tried in (
           led.0,
-          keeps past led.0 x r old.tree new.tree s makes led.1 (alone_answers past x r old.tree new.tree s does.takes.0) led.2,
+          keeps past led.0 x r old.tree new.tree s makes (step_near strategies x r old new does.takes) led.1 (alone_answers past x r old.tree new.tree s does.takes.0) led.2,
           led.2.spares,
           led.2.stands,
-          still_waiting marks past led.0 old.jobs new.jobs (step_grows x r past led.0 led.1) does.takes.1 waits,
+          still_waiting marks past led.0 old.jobs new.jobs (step_grows (DropsBy strategies old.tree.core x) old.tree.core.seqno x r past led.0 led.1) does.takes.1 waits,
         )
 
     each : (steps : List LogStep) (replies : List Reply) (past : LogPast) (old : LogStage S) (stages : List (LogStage S)) → AllDoes strategies tells world steps replies old stages → StandsLogged world image past old.tree → AreWaiting past old.jobs
-        → EachLeads world image steps replies past old.tree (map (λ st. st.tree) stages)
+        → EachLeads strategies world image steps replies past old.tree (map (λ st. st.tree) stages)
     each [] [] past old [] does s waits = tt
     each (x ∷ steps) (r ∷ replies) past old (mid ∷ stages) does s waits = λ tried.
         let one = step_leads past x r old mid s waits does.0 tried in
@@ -198,7 +203,7 @@ module _ {S : Type 0} (strategies : Strategies) (tells : Type 0) (world : S → 
     ends_at : last_of old (map (λ st. st.tree) ran.stages) ≡ last.tree
     ends_at = last_tree (at_first old) ran.stages ∙ ap (λ (st : LogStage S). st.tree) ran.ends
 
-    pub runs : (reading : Reading) (marks : NotedCompactionsKeepReads) (lists : ListsAreSteps) (between : Stores world) (told : tells) → AtRest (world old.store) → RunsLogged world steps replies old new
+    pub runs : (reading : Reading) (marks : NotedCompactionsKeepReads) (lists : ListsAreSteps) (between : Stores world) (told : tells) → AtRest (world old.store) → RunsLogged strategies world steps replies old new
     runs reading marks lists between told rest = record {
       trees = map (λ st. st.tree) ran.stages;
       ends = ap (λ (t : SeenLogged S). t.store) ends_at ∙ sym ends.rest.store;

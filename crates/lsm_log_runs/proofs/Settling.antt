@@ -1,5 +1,5 @@
--- A store of which each image that a crash may leave stands, and whose log isn't bad in any, can be opened: what its log reads can be put on
--- the disk.
+-- A store of which each image that a crash may leave stands, and whose log isn't bad in any, can be read: what its log reads can be put on
+-- the disk. It may be opened, where each is numbered below 2^63.
 use Rattle.std.proofs.Common.{◌≡◌, inl, inr, ℕ, true, false, List, [], Option, Some, IsSome, refl, sym, ap, ◌∙◌, subst, codes}
 use Rattle.std.specs.Prelude.{nat_eq, unwrap_or}
 use Rattle.std.specs.List.{starts_with}
@@ -18,7 +18,7 @@ use Rattle.lsm_logged.specs.Opening.{CanBeSettled}
 use Rattle.lsm_logged.proofs.LogNames.{refused_begins}
 use Rattle.lsm_logged.proofs.Meanwhile.{reads_outside}
 use Rattle.lsm_runs.proofs.Readiness.{less_ready}
-use Rattle.lsm_log_runs.specs.Images.{HoldsLogged, MayBeOpened}
+use Rattle.lsm_log_runs.specs.Images.{HoldsLogged, IsSmall, CanBeRead, MayBeOpened}
 
 -- ---- another content of a name in the folder of the log
 
@@ -65,9 +65,13 @@ module _ (once : FoundOnce) (unread : UnreadNamesDontMatter) (w : World) (stands
     );
   }
 
-  pub stands_opens : IsReady w → MayBeOpened w
-  stands_opens ready = record { ready = ready; stands = stands; settles = settles }
+  pub stands_read : IsReady w → CanBeRead w
+  stands_read ready = record { ready = ready; stands = stands; settles = settles }
 
--- and so does one of which a crash leaves less
+  pub stands_opens : ((image : Image) → IsImage w.may image → HoldsLogged IsSmall image) → IsReady w → MayBeOpened w
+  stands_opens small ready = record { read = stands_read ready; small = small }
+
+-- and so can one of which a crash leaves less
 pub less_opens : FoundOnce → UnreadNamesDontMatter → (old new : World) → ((image : Image) → IsImage new.may image → IsImage old.may image) → MayBeOpened old → MayBeOpened new
-less_opens once unread old new less may = stands_opens once unread new (λ image at. may.stands image (less image at)) (less_ready old new less may.ready)
+less_opens once unread old new less may =
+    stands_opens once unread new (λ image at. may.read.stands image (less image at)) (λ image at. may.small image (less image at)) (less_ready old new less may.read.ready)

@@ -1,6 +1,7 @@
 -- What each step leads to, by its kind and its reply.
-use Rattle.std.proofs.Common.{◌≡◌, ⊎_elim, ℕ, ◌+◌, ◌≤◌, Bool, true, false, cond, List, [], ◌∷◌, ◌++◌, map, length, Some, None, Result, Ok, Err, refl, sym, ap, ◌∙◌, subst, arith}
+use Rattle.std.proofs.Common.{◌≡◌, ⊎_elim, ℕ, ◌+◌, ◌<◌, ◌≤◌, ◌^◌, Bool, true, false, cond, List, [], ◌∷◌, ◌++◌, map, length, Some, None, Result, Ok, Err, refl, sym, ap, ◌∙◌, subst, arith}
 use Rattle.std.specs.List.{AllByRecursion, list_any}
+use Rattle.lsm_below.specs.Each.{each_left, each_right, each_weaker}
 use Rattle.lsm_below.specs.Entries.{Entry}
 use Rattle.lsm_below.specs.Keys.{Bytes}
 use Rattle.lsm_below.specs.declared.error.Error.{Error}
@@ -14,8 +15,8 @@ use Rattle.lsm_model.specs.Beginnings.{Note, Saved, FlushedIds}
 use Rattle.lsm_model.specs.declared.op.Op.{Op}
 use Rattle.lsm_model.specs.declared.journal.JournalEntry.TheVariants.{Write as Wrote, Install}
 use Rattle.lsm_commit.specs.Foreign.{AtRest}
-use Rattle.lsm_log_model.specs.Logs.{Logged as Log, IsCertain, Act, Batched, BatchLost, Did, CommitLost, AllActs}
-use Rattle.lsm_log_model.specs.Records.{HasDistinctKeys, LogImage, logged, opened_by}
+use Rattle.lsm_log_model.specs.Logs.{Logged as Log, IsCertain, lost_of, Act, Batched, BatchLost, Did, CommitLost, AllActs}
+use Rattle.lsm_log_model.specs.Records.{Batch, HasDistinctKeys, LogImage, logged, opened_by}
 use Rattle.lsm_log_model.proofs.Writes.{deeds_run}
 use Rattle.lsm_run_model.specs.Outcomes.{sealed_in}
 use Rattle.lsm_runs.specs.declared.steps.Reply.{Reply}
@@ -39,6 +40,7 @@ use Rattle.lsm_log_runs.proofs.BatchOrders.{batch_order}
 use Rattle.lsm_log_runs.proofs.Beside.{beside, is_sealed}
 use Rattle.lsm_log_runs.proofs.Going.{holds_on}
 use Rattle.lsm_log_runs.proofs.Leading.{Reading, Stores, StepFiles, Led, past_eq, stands_on, spared, leads_on, nothing_led}
+use Rattle.lsm_log_runs.proofs.Numbers.{IsBatchBelow}
 use Rattle.lsm_log_runs.proofs.Orders.{order_marked, order_cleared, order_installed}
 use Rattle.lsm_log_runs.proofs.Sparing.{is_steady, ForgetLast}
 
@@ -57,6 +59,12 @@ quiet opened old (Batched b ∷ acts) new q d = absurd q.0
 quiet opened old (BatchLost b ∷ acts) new q d = absurd q.0
 quiet opened old (Did action ∷ acts) new q d = let rest = quiet opened d.0 acts new q.1 d.2 in (rest.0 ∙ ap (λ (t : Log). t.reached) d.1.rest, rest.1 ∙ ap (λ (t : Log). t.lost) d.1.rest)
 quiet opened old (CommitLost action would ∷ acts) new q d = let rest = quiet opened d.0 acts new q.1 d.2 in (rest.0 ∙ ap (λ (t : Log). t.reached) d.1.rest, rest.1 ∙ ap (λ (t : Log). t.lost) d.1.rest)
+
+quiet_below : (act : Act) → IsQuiet act → IsBatchBelow (2 ^ 63) act
+quiet_below (Batched b) q = absurd q
+quiet_below (BatchLost b) q = absurd q
+quiet_below (Did action) q = tt
+quiet_below (CommitLost action would) q = tt
 
 abbrev pub IsAnswered : Act → Type 0
 IsAnswered (Did action) = Unit {0}
@@ -130,14 +138,17 @@ module _ {S : Type 0} (world : S → World) (reading : Reading) (between : Store
         let same = quiet opened s.log acts l.log q l.done in
         past_eq l.log next (ap (λ (t : Saved). t.state.journal) l.is.tree) (ap (λ (t : Saved). t.notes) l.is.tree) (same.0 ∙ reached_is ∙ sym reached) (same.1 ∙ lost_is ∙ sym lost)
 
+    all_below : AllByRecursion (IsBatchBelow (2 ^ 63)) acts
+    all_below = each_weaker IsQuiet (IsBatchBelow (2 ^ 63)) quiet_below acts q
+
     pub quiet_stands : StandsLogged world image next new
-    quiet_stands = stands_on world reading between image past next old new s acts l quiet_past order certain stored
+    quiet_stands = stands_on world reading between image past next old new s acts l quiet_past order certain stored all_below
 
     pub quiet_spared : ForgetLast acts → SparesAnswers past next old.core new.core
-    quiet_spared last = spared world reading between image past next old new s acts l quiet_past order certain stored last
+    quiet_spared last = spared world reading between image past next old new s acts l quiet_past order certain stored all_below last
 
     pub by_quiet : ForgetLast acts → AtRest w' → Led world reading between image past next old new
-    by_quiet last rest = leads_on world reading between image past next old new s acts l quiet_past order certain stored last rest
+    by_quiet last rest = leads_on world reading between image past next old new s acts l quiet_past order certain stored all_below last rest
 
   -- the notes tell what is sealed
   pub sealed_are : sealed_ids old.core ≡ sealed_in past.notes
@@ -160,44 +171,51 @@ module _ {S : Type 0} (world : S → World) (reading : Reading) (between : Store
       order : HasDistinctKeys (batch_of old.core.seqno ops) → InOrder opened (past.journal ++ map Wrote (op_entries old.core.seqno ops))
       order distinct = batch_order opened past.journal old.core.seqno ops s.came.order fresh distinct tried
 
+      abbrev IsNamed : Batch → Type 0
+      IsNamed b = b.number < 2 ^ 63
+
       -- the batch is acknowledged
       acked : Leads opened (past.journal ++ map Wrote (op_entries old.core.seqno ops)) past.notes s.log (Batched (batch_of old.core.seqno ops)) old.core new.core new.doubted w w' → new.core.seqno ≡ old.core.seqno + 1
-          → (n : ℕ) → n ≡ old.core.seqno → LeadsOn (AddsBatch ops (Number n) past)
+          → (n : ℕ) → n ≡ old.core.seqno → LeadsOn (AddsBatch old.core.seqno ops (Number n) past)
       acked leads drawn n is =
           let next = with_batch (batch_of old.core.seqno ops) past in
           let act : Act = Batched (batch_of old.core.seqno ops) in
           let l = led_by next.journal next.notes act leads (omega (arith, drawn)) (omega (arith, drawn), tt) in
           let journal = ap (λ (t : Saved). t.state.journal) leads.is.tree in
+          let small = subst (λ (t : Log). AllByRecursion IsNamed (t.records ++ lost_of t.lost)) leads.acts.rest leads.keeps.small in
+          let named = each_right IsNamed s.log.records (batch_of old.core.seqno ops ∷ []) (each_left IsNamed (s.log.records ++ batch_of old.core.seqno ops ∷ []) (lost_of s.log.lost) small) in
           let written = deeds_run opened s.log.tree leads.log.tree (op_entries old.core.seqno ops) leads.acts.writes in (
             next,
-            ap (λ m. with_batch (batch_of m ops) past) (sym is),
+            (is, ap (λ m. with_batch (batch_of m ops) past) (sym is)),
             leads_on world reading between image past next old new s (act ∷ []) l
                 (past_eq leads.log next journal (ap (λ (t : Saved). t.notes) leads.is.tree) (ap (λ (t : Log). t.reached) leads.acts.rest ∙ ap (λ (j : List Event). length j) journal) (ap (λ (t : Log). t.lost) leads.acts.rest ∙ lost_is))
-                (order leads.acts.distinct) (λ known. (written.others ∙ leads.acts.certain.0, ap (λ (t : Log). t.lost) leads.acts.rest ∙ leads.acts.certain.1)) stored tt rest,
+                (order leads.acts.distinct) (λ known. (written.others ∙ leads.acts.certain.0, ap (λ (t : Log). t.lost) leads.acts.rest ∙ leads.acts.certain.1)) stored named tt rest,
           )
 
       -- its outcome is unknown
-      doubtful : Leads opened past.journal past.notes s.log (BatchLost (batch_of old.core.seqno ops)) old.core new.core new.doubted w w' → new.core.seqno ≡ old.core.seqno + 1 → LeadsOn (AddsBatch ops (Refused CommitUnknown) past)
+      doubtful : Leads opened past.journal past.notes s.log (BatchLost (batch_of old.core.seqno ops)) old.core new.core new.doubted w w' → new.core.seqno ≡ old.core.seqno + 1 → LeadsOn (AddsBatch old.core.seqno ops (Refused CommitUnknown) past)
       doubtful leads drawn =
           let next = with_lost (batch_of old.core.seqno ops) past in
           let act : Act = BatchLost (batch_of old.core.seqno ops) in
           let l = led_by next.journal next.notes act leads (omega (arith, drawn)) (omega (arith, drawn), tt) in
+          let small = subst (λ (t : Log). AllByRecursion IsNamed (t.records ++ lost_of t.lost)) leads.acts.rest leads.keeps.small in
+          let named = each_right IsNamed s.log.records (batch_of old.core.seqno ops ∷ []) small in
           let before = ap (λ (p : LogPast). length p.journal) s.came.past_is in (
             next,
-            (old.core.seqno, refl),
+            refl,
             leads_on world reading between image past next old new s (act ∷ []) l
                 (past_eq leads.log next (ap (λ (t : Saved). t.state.journal) leads.is.tree) (ap (λ (t : Saved). t.notes) leads.is.tree) (ap (λ (t : Log). t.reached) leads.acts.rest ∙ reached_is)
                 (ap (λ (t : Log). t.lost) leads.acts.rest ∙ ap (λ k. Some (record { batch = batch_of old.core.seqno ops; place = k })) before))
-                s.came.order (λ known. absurd (cc known)) stored tt rest,
+                s.came.order (λ known. absurd (cc known)) stored named tt rest,
           )
 
-      refused_batch : (x : Error) → WritesLogged ops (Err x) old new → WritesAct ops (Err x) w w' old new → LeadsOn (AddsBatch ops (Refused x) past)
+      refused_batch : (x : Error) → WritesLogged ops (Err x) old new → WritesAct ops (Err x) w w' old new → LeadsOn (AddsBatch old.core.seqno ops (Refused x) past)
       refused_batch CommitUnknown takes acts = let a = acts opened past.journal past.notes s.log s.is s.keeps s.next in doubtful (a.unknown refl (order (lost_distinct ops old new takes))) (a.used refl)
       refused_batch x takes acts =
           let a = acts opened past.journal past.notes s.log s.is s.keeps s.next in
-          ⊎_elim (λ e. absurd (cc e)) (λ (l : LeadsBy opened past.journal past.notes s.log [] w w' old new). none_done (AddsBatch ops (Refused x) past) refl l) a.still
+          ⊎_elim (λ e. absurd (cc e)) (λ (l : LeadsBy opened past.journal past.notes s.log [] w w' old new). none_done (AddsBatch old.core.seqno ops (Refused x) past) refl l) a.still
 
-      pub batch_leads : (reply : Reply) → TakesBatch ops reply old new → ActsBatch ops reply w w' old new → LeadsOn (AddsBatch ops reply past)
+      pub batch_leads : (reply : Reply) → TakesBatch ops reply old new → ActsBatch ops reply w w' old new → LeadsOn (AddsBatch old.core.seqno ops reply past)
       batch_leads (Number n) takes acts = let a = acts opened past.journal past.notes s.log s.is s.keeps s.next in acked a.ok a.drawn n a.number
       batch_leads (Refused x) takes acts = refused_batch x takes acts
       batch_leads reply takes acts = absurd acts
@@ -218,10 +236,10 @@ module _ {S : Type 0} (world : S → World) (reading : Reading) (between : Store
         )
 
     installed : (watermark : ℕ) (action : Action) → is_steady action ≡ true → LeadsByCommit watermark action (Install old.core.seqno ∷ []) (FlushedIds (sealed_ids old.core) ∷ []) opened past.journal past.notes s.log w w' old new
-        → LeadsOn (λ next. (n : ℕ) × (next ≡ with_flush watermark n past))
+        → LeadsOn (λ next. next ≡ with_flush watermark old.core.seqno past)
     installed watermark action steady l =
         let f = flushed (sealed_ids old.core) watermark action steady l in
-        (f.0, (old.core.seqno, f.1 ∙ ap (λ ids. with_flushed ids watermark old.core.seqno past) sealed_are), f.2)
+        (f.0, f.1 ∙ ap (λ ids. with_flushed ids watermark old.core.seqno past) sealed_are, f.2)
 
     pub unknown : (watermark : ℕ) (action : Action) → LeadsByLost watermark action [] opened past.journal past.notes s.log w w' old new → LeadsOn (λ next. next ≡ with_doubt watermark [] past)
     unknown watermark action l =
@@ -231,12 +249,12 @@ module _ {S : Type 0} (world : S → World) (reading : Reading) (between : Store
           quietly next (Did (Marked watermark) ∷ (CommitLost action l.0 ∷ [])) (tt, (tt, tt)) (refl, tt) l.1 refl refl (order_marked opened past.journal s.came.order watermark) (λ known. absurd (cc known)),
         )
 
-    refused_flush : (watermark : ℕ) (x : Error) → ActsFlush watermark (Refused x) w w' old new → LeadsOn (AddsFlush watermark (Refused x) past)
+    refused_flush : (watermark : ℕ) (x : Error) → ActsFlush watermark (Refused x) w w' old new → LeadsOn (AddsFlush old.core.seqno watermark (Refused x) past)
     refused_flush watermark CommitUnknown acts = let a = acts opened (logged image) past.journal past.notes s.log s.is s.keeps s.next holds in unknown watermark _ a.1
-    refused_flush watermark x acts = none_done (AddsFlush watermark (Refused x) past) refl (acts opened (logged image) past.journal past.notes s.log s.is s.keeps s.next holds)
+    refused_flush watermark x acts = none_done (AddsFlush old.core.seqno watermark (Refused x) past) refl (acts opened (logged image) past.journal past.notes s.log s.is s.keeps s.next holds)
 
-    pub flush_leads : (watermark : ℕ) (reply : Reply) → ActsFlush watermark reply w w' old new → LeadsOn (AddsFlush watermark reply past)
-    flush_leads watermark (Flushed None) acts = none_done (AddsFlush watermark (Flushed None) past) refl (acts opened (logged image) past.journal past.notes s.log s.is s.keeps s.next holds)
+    pub flush_leads : (watermark : ℕ) (reply : Reply) → ActsFlush watermark reply w w' old new → LeadsOn (AddsFlush old.core.seqno watermark reply past)
+    flush_leads watermark (Flushed None) acts = none_done (AddsFlush old.core.seqno watermark (Flushed None) past) refl (acts opened (logged image) past.journal past.notes s.log s.is s.keeps s.next holds)
     flush_leads watermark (Flushed (Some p)) acts = let a = acts opened (logged image) past.journal past.notes s.log s.is s.keeps s.next holds in installed watermark _ refl a.1
     flush_leads watermark (Refused x) acts = refused_flush watermark x acts
     flush_leads watermark reply acts = absurd acts
@@ -252,16 +270,16 @@ module _ {S : Type 0} (world : S → World) (reading : Reading) (between : Store
               (λ known. answered opened s.log (Did (clear_of old) ∷ []) l.log (tt, tt) l.done (s.came.certain known)),
         )
 
-    refused_clear : (x : Error) → ActsClear (Refused x) w w' old new → LeadsOn (AddsClear (Refused x) past)
-    refused_clear AfterCommit acts = let r = cleared (acts opened past.journal past.notes s.log s.is s.keeps s.next) in (r.0, (old.core.seqno, r.1), r.2)
+    refused_clear : (x : Error) → ActsClear (Refused x) w w' old new → LeadsOn (AddsClear old.core.seqno (Refused x) past)
+    refused_clear AfterCommit acts = let r = cleared (acts opened past.journal past.notes s.log s.is s.keeps s.next) in (r.0, r.1, r.2)
     refused_clear CommitUnknown acts =
         let a = acts opened past.journal past.notes s.log s.is s.keeps s.next in
         let next = with_lost_clear old.core.seqno past in (
           next,
-          (old.core.seqno, refl),
+          refl,
           quietly next (CommitLost (clear_of old) a.0 ∷ []) (tt, tt) tt a.1 refl refl s.came.order (λ known. absurd (cc known)),
         )
-    refused_clear x acts = none_done (AddsClear (Refused x) past) refl (acts opened past.journal past.notes s.log s.is s.keeps s.next)
+    refused_clear x acts = none_done (AddsClear old.core.seqno (Refused x) past) refl (acts opened past.journal past.notes s.log s.is s.keeps s.next)
 
     -- its number is what it answers
     clear_number : (n : ℕ) → ClearsLogged (Ok n) old new → n ≡ old.core.seqno
@@ -275,7 +293,7 @@ module _ {S : Type 0} (world : S → World) (reading : Reading) (between : Store
         by_sure true is = let z = (c.unsure is).0 in absurd (cc z)
         by_sure false is = let t = c.tree is in said t.told t.clears t.said
 
-    pub clear_leads : (reply : Reply) → TakesClear reply old new → ActsClear reply w w' old new → LeadsOn (AddsClear reply past)
-    clear_leads (Cleared n) takes acts = let r = cleared (acts opened past.journal past.notes s.log s.is s.keeps s.next) in (r.0, r.1 ∙ ap (λ m. with_clear m past) (sym (clear_number n takes)), r.2)
+    pub clear_leads : (reply : Reply) → TakesClear reply old new → ActsClear reply w w' old new → LeadsOn (AddsClear old.core.seqno reply past)
+    clear_leads (Cleared n) takes acts = let r = cleared (acts opened past.journal past.notes s.log s.is s.keeps s.next) in (r.0, (clear_number n takes, r.1 ∙ ap (λ m. with_clear m past) (sym (clear_number n takes))), r.2)
     clear_leads (Refused x) takes acts = refused_clear x acts
     clear_leads reply takes acts = absurd acts

@@ -1,6 +1,7 @@
 -- What waits in the slots, beside what was called.
 use Rattle.std.proofs.Common.{◌≡◌, ⊎_elim, ◌⊎◌, inl, inr, ℕ, Bool, true, false, cond, List, [], ◌∷◌, ◌++◌, Option, Some, None, IsSome, is_some, option_map, Result, Ok, Err, refl, sym, ap, ◌∙◌, subst, eq-eqb}
 use Rattle.std.proofs.lemmas.Bool.Decides.{eqb_tells}
+use Rattle.lsm_below.specs.Ranges.{Range}
 use Rattle.lsm_below.specs.declared.error.Error.{Error}
 use Rattle.lsm_below.specs.declared.error.Error.TheVariants.{OutOfMemory, Unrecoverable}
 use Rattle.lsm_model.specs.Journal.{Event}
@@ -29,21 +30,24 @@ use Rattle.lsm_runs.specs.declared.steps.Reply.{Reply}
 use Rattle.lsm_runs.specs.declared.steps.Reply.TheVariants.{Begun, Done, Registered, NoStrategy, NoJob, SlotInUse, Refused}
 use Rattle.lsm_runs.specs.Compacting.{Strategies, reply_of, job_of, TakesRunCompaction}
 use Rattle.lsm_runs.specs.Flushing.{TakesRun}
+use Rattle.lsm_runs.specs.OpenFlushes.{BegunFlush}
 use Rattle.lsm_runs.specs.Slots.{flush_in, merge_in}
+use Rattle.lsm_runs.proofs.Merged.{merged_at}
 use Rattle.lsm_logged.specs.Asking.{Asks}
 use Rattle.lsm_logged.specs.Flushing.{BeginsLogged, WritesJobLogged}
 use Rattle.lsm_logged.specs.Keeping.{SeenLogged}
-use Rattle.lsm_runs.specs.Adds.{AnyRanges}
-use Rattle.lsm_log_runs.specs.Adds.{AddsBegun, AddsCompaction, AddsRegister, AddsMerge, AddsJob}
+use Rattle.lsm_log_runs.specs.Adds.{AddsBegun, AddsMerged, AddsCompaction, AddsRegister, AddsMerge, AddsJob}
 use Rattle.lsm_log_runs.specs.JobSteps.{IsIdle, TakesBegin, TakesTables, TakesRegister, TakesAbandon, TakesBeginCompaction, TakesFinish, TakesAbandonCompaction, TakesJob}
-use Rattle.lsm_log_runs.specs.Pasts.{LogPast, with_begun}
+use Rattle.lsm_log_runs.specs.Pasts.{LogPast, with_slot, with_begun}
 use Rattle.lsm_log_runs.proofs.Growing.{Grows}
 
 -- ---- what waits
 
--- the memtables of the flush whose job waits in a place are these, and the watermark of the merge whose job waits there is marked
-pub record WaitsAt (ids : List ℕ) (journal : List Event) (place : Option Job) : Type 0 where
-  pub begun : (job : SeenJob) → flush_in place ≡ Some job → job.ids ≡ ids
+-- the flush whose job waits in a place is of these memtables and was merged at this watermark, and the watermark of the merge whose job waits
+-- there is marked
+pub record WaitsAt (flush : BegunFlush) (journal : List Event) (place : Option Job) : Type 0 where
+  pub begun : (job : SeenJob) → flush_in place ≡ Some job → job.ids ≡ flush.ids
+  pub merged : (w : ℕ) → merged_at place ≡ Some w → w ≡ flush.watermark
   pub marked : (job : SeenCompaction) → merge_in place ≡ Some job → IsMarkedIn job.settings.watermark journal
 
 abbrev pub AreWaiting : LogPast → (ℕ → Option Job) → Type 0
@@ -51,6 +55,12 @@ AreWaiting past jobs = (n : ℕ) → WaitsAt (past.begun n) past.journal (jobs n
 
 no_flush : (o : Option SeenJob) (a : SeenJob) → o ≡ None → o ≡ Some a → ⊥
 no_flush o a none some = cc
+
+no_mark : (o : Option ℕ) (w : ℕ) → o ≡ None → o ≡ Some w → ⊥
+no_mark o w none some = cc
+
+one_mark : (o : Option ℕ) (v w : ℕ) → o ≡ Some v → o ≡ Some w → v ≡ w
+one_mark o v w first second = cc
 
 one_flush : (o : Option SeenJob) (a b : SeenJob) → o ≡ Some a → o ≡ Some b → a ≡ b
 one_flush o a b first second = cc
@@ -61,29 +71,40 @@ no_merge o a none some = cc
 one_merge : (o : Option SeenCompaction) (a b : SeenCompaction) → o ≡ Some a → o ≡ Some b → a ≡ b
 one_merge o a b first second = cc
 
--- nothing, a flush, a merge, or the same as before
-none_waits : (ids : List ℕ) (journal : List Event) (place : Option Job) → place ≡ None → WaitsAt ids journal place
-none_waits ids journal place none = record {
+-- nothing, a flush that isn't merged or is, a merge, or the same as before
+none_waits : (flush : BegunFlush) (journal : List Event) (place : Option Job) → place ≡ None → WaitsAt flush journal place
+none_waits flush journal place none = record {
   begun = λ job at. absurd (no_flush (flush_in place) job (ap flush_in none) at);
+  merged = λ w at. absurd (no_mark (merged_at place) w (ap merged_at none) at);
   marked = λ job at. absurd (no_merge (merge_in place) job (ap merge_in none) at);
 }
 
-flush_waits : (ids : List ℕ) (journal : List Event) (place : Option Job) (job : SeenJob) → flush_in place ≡ Some job → merge_in place ≡ None → job.ids ≡ ids → WaitsAt ids journal place
-flush_waits ids journal place job there none is = record {
+begun_waits : (flush : BegunFlush) (journal : List Event) (place : Option Job) (job : SeenJob) → place ≡ Some (BegunJob job) → job.ids ≡ flush.ids → WaitsAt flush journal place
+begun_waits flush journal place job there is = record {
+  begun = λ other at. ap (λ (j : SeenJob). j.ids) (one_flush (flush_in place) other job at (ap flush_in there)) ∙ is;
+  merged = λ w at. absurd (no_mark (merged_at place) w (ap merged_at there) at);
+  marked = λ other at. absurd (no_merge (merge_in place) other (ap merge_in there) at);
+}
+
+flush_waits : (flush : BegunFlush) (journal : List Event) (place : Option Job) (job : SeenJob) (w : ℕ) → flush_in place ≡ Some job → merged_at place ≡ Some w → merge_in place ≡ None → job.ids ≡ flush.ids → w ≡ flush.watermark → WaitsAt flush journal place
+flush_waits flush journal place job w there mark none is at_mark = record {
   begun = λ other at. ap (λ (j : SeenJob). j.ids) (one_flush (flush_in place) other job at there) ∙ is;
+  merged = λ v at. one_mark (merged_at place) v w at mark ∙ at_mark;
   marked = λ other at. absurd (no_merge (merge_in place) other none at);
 }
 
-merge_waits : (ids : List ℕ) (journal : List Event) (place : Option Job) (job : SeenCompaction) → flush_in place ≡ None → merge_in place ≡ Some job → IsMarkedIn job.settings.watermark journal → WaitsAt ids journal place
-merge_waits ids journal place job none there marked = record {
+merge_waits : (flush : BegunFlush) (journal : List Event) (place : Option Job) (job : SeenCompaction) → flush_in place ≡ None → merged_at place ≡ None → merge_in place ≡ Some job → IsMarkedIn job.settings.watermark journal → WaitsAt flush journal place
+merge_waits flush journal place job none unmarked there marked = record {
   begun = λ other at. absurd (no_flush (flush_in place) other none at);
+  merged = λ w at. absurd (no_mark (merged_at place) w unmarked at);
   marked = λ other at. subst (λ (j : SeenCompaction). IsMarkedIn j.settings.watermark journal) (one_merge (merge_in place) job other there at) marked;
 }
 
-same_waits : (ids : List ℕ) (journal : List Event) (was is : Option Job) → flush_in is ≡ flush_in was → merge_in is ≡ merge_in was → WaitsAt ids journal was → WaitsAt ids journal is
-same_waits ids journal was is flush merge w = record {
-  begun = λ job at. w.begun job (sym flush ∙ at);
-  marked = λ job at. w.marked job (sym merge ∙ at);
+same_waits : (flush : BegunFlush) (journal : List Event) (was is : Option Job) → flush_in is ≡ flush_in was → merged_at is ≡ merged_at was → merge_in is ≡ merge_in was → WaitsAt flush journal was → WaitsAt flush journal is
+same_waits flush journal was is job mark merge w = record {
+  begun = λ other at. w.begun other (sym job ∙ at);
+  merged = λ v at. w.merged v (sym mark ∙ at);
+  marked = λ other at. w.marked other (sym merge ∙ at);
 }
 
 pub first_waiting : (past : LogPast) → AreWaiting past (λ n. None)
@@ -92,7 +113,8 @@ first_waiting past n = none_waits (past.begun n) past.journal None refl
 -- as more is called
 pub grown_waits : (laws : NotedCompactionsKeepReads) (Other : ℕ → Type 0) (past next : LogPast) → Grows Other past next → (n : ℕ) → Other n → (was is : Option Job) → is ≡ was → WaitsAt (past.begun n) past.journal was → WaitsAt (next.begun n) next.journal is
 grown_waits laws Other past next g n other was is same w = record {
-  begun = λ job at. w.begun job (sym (ap flush_in same) ∙ at) ∙ sym (g.begun n other);
+  begun = λ job at. w.begun job (sym (ap flush_in same) ∙ at) ∙ sym (ap (λ (f : BegunFlush). f.ids) (g.begun n other));
+  merged = λ v at. w.merged v (sym (ap merged_at same) ∙ at) ∙ sym (ap (λ (f : BegunFlush). f.watermark) (g.begun n other));
   marked = λ job at. subst (IsMarkedIn job.settings.watermark) (sym g.journal) (laws.lasts job.settings.watermark past.journal g.events (w.marked job (sym (ap merge_in same) ∙ at)));
 }
 
@@ -140,40 +162,49 @@ merge_mark may_choose may_refuse o job old new asks = by_doubt old.doubted refl
 
 -- ---- a call on the job in a slot
 
-module _ {S : Type 0} (laws : NotedCompactionsKeepReads) (slot : ℕ) (past next : LogPast) (was is : Option Job) (here : WaitsAt (past.begun slot) past.journal was) (old new : SeenLogged S) where
+module _ {S : Type 0} (laws : NotedCompactionsKeepReads) (May : List Range → Type 0) (c slot : ℕ) (past next : LogPast) (was is : Option Job) (here : WaitsAt (past.begun slot) past.journal was) (old new : SeenLogged S) where
   abbrev Goal : Type 0
   Goal = WaitsAt (next.begun slot) next.journal is
 
   -- nothing is added, and the slot has a job of the same flush or merge
-  stays : next ≡ past → flush_in is ≡ flush_in was → merge_in is ≡ merge_in was → Goal
-  stays same flush merge = subst (λ (p : LogPast). WaitsAt (p.begun slot) p.journal is) (sym same) (same_waits (past.begun slot) past.journal was is flush merge here)
+  stays : next ≡ past → flush_in is ≡ flush_in was → merged_at is ≡ merged_at was → merge_in is ≡ merge_in was → Goal
+  stays same flush mark merge = subst (λ (p : LogPast). WaitsAt (p.begun slot) p.journal is) (sym same) (same_waits (past.begun slot) past.journal was is flush mark merge here)
 
   idle : next ≡ past → IsIdle was is old new → Goal
-  idle same t = stays same (ap flush_in t.0) (ap merge_in t.0)
+  idle same t = stays same (ap flush_in t.0) (ap merged_at t.0) (ap merge_in t.0)
 
   freed : is ≡ None → Goal
   freed free = none_waits (next.begun slot) next.journal is free
+
+  -- what is begun in the slot
+  here_is : (flush : BegunFlush) → (with_slot slot flush past).begun slot ≡ flush
+  here_is flush = ap (λ b. cond b flush (past.begun slot)) (eq-eqb slot slot refl)
 
   begin_waits : sealed_ids old.core ≡ sealed_in past.notes → (reply : Reply) → TakesBegin reply was is old new → AddsBegun slot reply past next → Goal
   begin_waits sealed (Begun b) t adds = go b t.1.0 t.1.1 t.1.2 t.1.3 adds
     where
       begun_here : (job : SeenJob) → is ≡ Some (BegunJob job) → Begins (Ok (Some job)) old.core new.core → WaitsAt ((with_begun slot past).begun slot) past.journal is
-      begun_here job at begins = flush_waits ((with_begun slot past).begun slot) past.journal is job (ap flush_in at) (ap merge_in at)
-          (ap (λ (j : SeenJob). j.ids) begins.begins.0 ∙ sealed ∙ sym (ap (λ b. cond b (sealed_in past.notes) (past.begun slot)) (eq-eqb slot slot refl)))
+      begun_here job at begins = begun_waits ((with_begun slot past).begun slot) past.journal is job at
+          (ap (λ (j : SeenJob). j.ids) begins.begins.0 ∙ sealed ∙ sym (ap (λ (f : BegunFlush). f.ids) (here_is (record { ids = sealed_in past.notes; watermark = 0 }))))
 
       go : (b : Bool) (job : Option SeenJob) → is ≡ option_map BegunJob job → b ≡ is_some job → BeginsLogged (Ok job) old new → AddsBegun slot (Begun b) past next → Goal
       go true (Some job) at some begins adds = subst (λ (p : LogPast). WaitsAt (p.begun slot) p.journal is) (sym adds) (begun_here job at (begins_of (Some job) old new begins))
       go true None at some begins adds = absurd (cc some)
       go false (Some job) at some begins adds = absurd (cc some)
       go false None at some begins adds = freed at
-  begin_waits sealed (Refused x) t adds = stays adds (ap flush_in t.0) (ap merge_in t.0)
+  begin_waits sealed (Refused x) t adds = stays adds (ap flush_in t.0) (ap merged_at t.0) (ap merge_in t.0)
   begin_waits sealed SlotInUse t adds = idle adds t.0
   begin_waits sealed reply t adds = absurd t
 
-  run_waits : (w : ℕ) (reply : Reply) (a b : Core) → TakesRun w reply [] was is a b → next ≡ past → Goal
-  run_waits w Done a b t same = stays same (ap flush_in t.2.2 ∙ sym (ap flush_in t.2.1)) (ap merge_in t.2.2 ∙ sym (ap merge_in t.2.1))
-  run_waits w (Refused x) a b t same = stays same (ap flush_in t.0.1) (ap merge_in t.0.1)
-  run_waits w NoJob a b t same = stays same (ap flush_in t.0.1) (ap merge_in t.0.1)
+  run_waits : (w : ℕ) (reply : Reply) (a b : Core) → TakesRun w reply [] was is a b → AddsMerged slot w reply past next → Goal
+  run_waits w Done a b t adds =
+      let job = t.2.0 in
+      let flush : BegunFlush = record { ids = (past.begun slot).ids; watermark = w } in
+      subst (λ (p : LogPast). WaitsAt (p.begun slot) p.journal is) (sym adds)
+      (subst (λ f. WaitsAt f past.journal is) (sym (here_is flush))
+      (flush_waits flush past.journal is job.job job.watermark (ap flush_in t.2.2) (ap merged_at t.2.2) (ap merge_in t.2.2) (here.begun job.job (ap flush_in t.2.1)) t.2.3))
+  run_waits w (Refused x) a b t same = stays same (ap flush_in t.0.1) (ap merged_at t.0.1) (ap merge_in t.0.1)
+  run_waits w NoJob a b t same = stays same (ap flush_in t.0.1) (ap merged_at t.0.1) (ap merge_in t.0.1)
   run_waits w reply a b t same = absurd t
 
   tables_waits : (reply : Reply) → TakesTables reply was is old new → next ≡ past → Goal
@@ -181,16 +212,17 @@ module _ {S : Type 0} (laws : NotedCompactionsKeepReads) (slot : ℕ) (past next
       let job = t.0 in
       let made = t.1 in
       subst (λ (p : LogPast). WaitsAt (p.begun slot) p.journal is) (sym same)
-      (flush_waits (past.begun slot) past.journal is made.job (ap flush_in t.3) (ap merge_in t.3) (ap (λ (j : SeenJob). j.ids) (of_job job made t.4 old.doubted refl) ∙ here.begun job.job (ap flush_in t.2)))
+      (let of = of_job job made t.4 old.doubted refl in
+      flush_waits (past.begun slot) past.journal is made.job made.watermark (ap flush_in t.3) (ap merged_at t.3) (ap merge_in t.3) (ap (λ (j : SeenJob). j.ids) of.0 ∙ here.begun job.job (ap flush_in t.2)) (of.1 ∙ here.merged job.watermark (ap merged_at t.2)))
     where
-      of_job : (job : SeenMerged) (made : SeenWritten) → WritesJobLogged job (Ok made) old new → (d : Bool) → old.doubted ≡ d → made.job ≡ job.job
+      of_job : (job : SeenMerged) (made : SeenWritten) → WritesJobLogged job (Ok made) old new → (d : Bool) → old.doubted ≡ d → (made.job ≡ job.job) × (made.watermark ≡ job.watermark)
       of_job job made writes true at = let z = (writes.doubted at).0 in absurd (cc z)
-      of_job job made writes false at = (writes.writes at).of_job.0
-  tables_waits (Refused x) t same = stays same (ap flush_in t.2) (ap merge_in t.2)
+      of_job job made writes false at = let of = (writes.writes at).of_job in (of.0, of.1)
+  tables_waits (Refused x) t same = stays same (ap flush_in t.2) (ap merged_at t.2) (ap merge_in t.2)
   tables_waits NoJob t same = idle same t.0
   tables_waits reply t same = absurd t
 
-  register_waits : (reply : Reply) → TakesRegister reply was is old new → AddsRegister slot reply past next → Goal
+  register_waits : (reply : Reply) → TakesRegister reply was is old new → AddsRegister c slot reply past next → Goal
   register_waits (Registered a) t adds = freed t.2
   register_waits (Refused x) t adds = freed t.2
   register_waits NoJob t adds = idle adds t.0
@@ -201,14 +233,14 @@ module _ {S : Type 0} (laws : NotedCompactionsKeepReads) (slot : ℕ) (past next
   abandon_waits NoJob t same = idle same t.0
   abandon_waits reply t same = absurd t
 
-  compaction_waits : (strategies : Strategies) (at : ℕ) (o : Options) (reply : Reply) → TakesBeginCompaction strategies at o reply was is old new → AddsCompaction AnyRanges o.mvcc_gc_watermark reply past next → Goal
+  compaction_waits : (strategies : Strategies) (at : ℕ) (o : Options) (reply : Reply) → TakesBeginCompaction strategies at o reply was is old new → AddsCompaction May c o.mvcc_gc_watermark reply past next → Goal
   compaction_waits strategies at o SlotInUse t adds = idle adds t.0
   compaction_waits strategies at o NoStrategy t adds = idle adds t.0
-  compaction_waits strategies at o reply t adds = go t.begun t.waits t.begins (subst (λ r. AddsCompaction AnyRanges o.mvcc_gc_watermark r past next) t.told adds)
+  compaction_waits strategies at o reply t adds = go t.begun t.waits t.begins (subst (λ r. AddsCompaction May c o.mvcc_gc_watermark r past next) t.told adds)
     where
-      go : (begun : Result HowBegun Error) → is ≡ job_of begun → Asks begun old new (BeginsCompaction (strategies.may_choose at) (strategies.may_refuse at) o begun old.core new.core) → AddsCompaction AnyRanges o.mvcc_gc_watermark (reply_of begun) past next → Goal
+      go : (begun : Result HowBegun Error) → is ≡ job_of begun → Asks begun old new (BeginsCompaction (strategies.may_choose at) (strategies.may_refuse at) o begun old.core new.core) → AddsCompaction May c o.mvcc_gc_watermark (reply_of begun) past next → Goal
       go (Ok (MergeJob job)) there asks adds =
-          subst (λ (p : LogPast). WaitsAt (p.begun slot) p.journal is) (sym adds) (merge_waits (past.begun slot) (past.journal ++ Mark o.mvcc_gc_watermark ∷ []) is job (ap flush_in there) (ap merge_in there)
+          subst (λ (p : LogPast). WaitsAt (p.begun slot) p.journal is) (sym adds) (merge_waits (past.begun slot) (past.journal ++ Mark o.mvcc_gc_watermark ∷ []) is job (ap flush_in there) (ap merged_at there) (ap merge_in there)
           (subst (λ n. IsMarkedIn n (past.journal ++ Mark o.mvcc_gc_watermark ∷ [])) (sym (merge_mark (strategies.may_choose at) (strategies.may_refuse at) o job old new asks)) (laws.marked o.mvcc_gc_watermark past.journal [])))
       go (Ok DidNothing) there asks adds = freed there
       go (Ok (Declined why)) there asks adds = freed there
@@ -216,12 +248,12 @@ module _ {S : Type 0} (laws : NotedCompactionsKeepReads) (slot : ℕ) (past next
       go (Err x) there asks adds = freed there
 
   run_merge_waits : (reply : Reply) (a b : Core) → TakesRunCompaction reply [] was is a b → next ≡ past → Goal
-  run_merge_waits Done a b t same = stays same (ap flush_in t.2.2 ∙ sym (ap flush_in t.2.1)) (ap merge_in t.2.2 ∙ sym (ap merge_in t.2.1))
-  run_merge_waits (Refused x) a b t same = stays same (ap flush_in t.0.1) (ap merge_in t.0.1)
-  run_merge_waits NoJob a b t same = stays same (ap flush_in t.0.1) (ap merge_in t.0.1)
+  run_merge_waits Done a b t same = stays same (ap flush_in t.2.2 ∙ sym (ap flush_in t.2.1)) (ap merged_at t.2.2 ∙ sym (ap merged_at t.2.1)) (ap merge_in t.2.2 ∙ sym (ap merge_in t.2.1))
+  run_merge_waits (Refused x) a b t same = stays same (ap flush_in t.0.1) (ap merged_at t.0.1) (ap merge_in t.0.1)
+  run_merge_waits NoJob a b t same = stays same (ap flush_in t.0.1) (ap merged_at t.0.1) (ap merge_in t.0.1)
   run_merge_waits reply a b t same = absurd t
 
-  finish_waits : (reply : Reply) → TakesFinish reply was is old new → AddsMerge reply past next → Goal
+  finish_waits : (reply : Reply) → TakesFinish reply was is old new → AddsMerge c reply past next → Goal
   finish_waits NoJob t adds = idle adds t.0
   finish_waits reply t adds = freed t.free
 
@@ -230,7 +262,7 @@ module _ {S : Type 0} (laws : NotedCompactionsKeepReads) (slot : ℕ) (past next
   abandon_merge_waits NoJob t same = idle same t.0
   abandon_merge_waits reply t same = absurd t
 
-  pub job_waits : sealed_ids old.core ≡ sealed_in past.notes → (strategies : Strategies) (step : JobStep) (reply : Reply) → TakesJob strategies step reply was is old new → AddsJob slot step reply past next → Goal
+  pub job_waits : sealed_ids old.core ≡ sealed_in past.notes → (strategies : Strategies) (step : JobStep) (reply : Reply) → TakesJob strategies step reply was is old new → AddsJob May c slot step reply past next → Goal
   job_waits sealed strategies BeginFlush reply t adds = begin_waits sealed reply t adds
   job_waits sealed strategies (RunFlush w) reply t adds = run_waits w reply old.core new.core t.0 adds
   job_waits sealed strategies FlushToTables reply t adds = tables_waits reply t adds

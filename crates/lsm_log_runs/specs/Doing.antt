@@ -17,6 +17,9 @@ use Rattle.lsm_runs.specs.declared.steps.Reply.{Reply}
 use Rattle.lsm_runs.specs.declared.steps.Reply.TheVariants.{Number, Sealed, Flushed, FlushedActive, RefusedActive, Cleared, Registered, NoStrategy, NoJob, SlotInUse, Refused}
 use Rattle.lsm_runs.specs.Compacting.{Strategies, reply_of, end_reply_of}
 use Rattle.lsm_runs.specs.Files.{StaysStored}
+use Rattle.lsm_pick.specs.declared.choice.Choice.{Choice}
+use Rattle.lsm_state.specs.Compactions.{Relation}
+use Rattle.lsm_state.specs.Dropping.{MayDropIds}
 use Rattle.lsm_state.specs.declared.compaction.Begun.{Begun}
 use Rattle.lsm_state.specs.declared.compaction.Finished.{Finished}
 use Rattle.lsm_logged.specs.Acting.{ActsNot, FlushesAct, RotatesAct, ClearsAct, IsCompaction, IsMerging, DropsWithin, CompactsBy, RegistersAct, MergesAct}
@@ -65,11 +68,11 @@ ActsFlushActive watermark reply w w' old new = ⊥
 abbrev pub ActsCompaction : {S : Type 0} → (Action → Type 0) → ℕ → Reply → World → World → SeenLogged S → SeenLogged S → Type 0
 ActsCompaction May watermark reply w w' old new = (begun : Result Begun Error) × (reply ≡ reply_of begun) × CompactsBy May watermark begun w w' old new
 
--- one by a strategy, where there is one of that index, and the slot for its job is free
-abbrev pub ActsCompact : {S : Type 0} → ℕ → Reply → World → World → SeenLogged S → SeenLogged S → Type 0
-ActsCompact watermark NoStrategy w w' old new = new ≡ old
-ActsCompact watermark SlotInUse w w' old new = new ≡ old
-ActsCompact watermark reply w w' old new = ActsCompaction (IsCompaction watermark) watermark reply w w' old new
+-- one by a strategy of this relation, where there is one of that index, and the slot for its job is free
+abbrev pub ActsCompact : {S : Type 0} → Relation Choice → ℕ → Reply → World → World → SeenLogged S → SeenLogged S → Type 0
+ActsCompact may watermark NoStrategy w w' old new = new ≡ old
+ActsCompact may watermark SlotInUse w w' old new = new ≡ old
+ActsCompact may watermark reply w w' old new = ActsCompaction (IsCompaction (MayDropIds may old.core) watermark) watermark reply w w' old new
 
 -- ---- calls on the job in a slot, as the theory sees them
 
@@ -88,32 +91,32 @@ ActsMerge NoJob was w w' old new = new ≡ old
 ActsMerge reply was w w' old new = (job : SeenCompacted) × (was ≡ Some (CompactedJob job)) × ((end : Result Finished Error) × (reply ≡ end_reply_of end) × MergesAct job.job end w w' old new)
 
 -- with what waits in the slot before
-abbrev pub ActsJob : {S : Type 0} → JobStep → Reply → Option Job → World → World → SeenLogged S → SeenLogged S → Type 0
-ActsJob RegisterTables reply was w w' old new = ActsRegister reply was w w' old new
-ActsJob (BeginCompaction at o) reply was w w' old new = ActsCompact o.mvcc_gc_watermark reply w w' old new
-ActsJob FinishCompaction reply was w w' old new = ActsMerge reply was w w' old new
-ActsJob step reply was w w' old new = ActsNothing w w' old new
+abbrev pub ActsJob : {S : Type 0} → Strategies → JobStep → Reply → Option Job → World → World → SeenLogged S → SeenLogged S → Type 0
+ActsJob strategies RegisterTables reply was w w' old new = ActsRegister reply was w w' old new
+ActsJob strategies (BeginCompaction at o) reply was w w' old new = ActsCompact (strategies.may_choose at) o.mvcc_gc_watermark reply w w' old new
+ActsJob strategies FinishCompaction reply was w w' old new = ActsMerge reply was w w' old new
+ActsJob strategies step reply was w w' old new = ActsNothing w w' old new
 
 -- ---- by steps
 
 -- a read is nothing
-abbrev pub ActsAlone : {S : Type 0} → LogStep → Reply → World → World → SeenLogged S → SeenLogged S → Type 0
-ActsAlone (Write ops) reply w w' old new = ActsBatch ops reply w w' old new
-ActsAlone (Flush watermark) reply w w' old new = ActsFlush watermark reply w w' old new
-ActsAlone Clear reply w w' old new = ActsClear reply w w' old new
-ActsAlone RotateMemtable reply w w' old new = ActsRotate reply w old new
-ActsAlone (FlushActiveMemtable watermark) reply w w' old new = ActsFlushActive watermark reply w w' old new
-ActsAlone (Compact at watermark) reply w w' old new = ActsCompact watermark reply w w' old new
-ActsAlone (MajorCompact target watermark) reply w w' old new = ActsCompaction (IsMerging watermark) watermark reply w w' old new
-ActsAlone (DropRange low high) reply w w' old new = ActsCompaction (DropsWithin (record { start = low; end = high }) old.core) 0 reply w w' old new
-ActsAlone GetNextTableId reply w w' old new = ActsNot w w' old new
-ActsAlone (SetMoment n) reply w w' old new = ActsNot w w' old new
-ActsAlone (AtSlot slot step) reply w w' old new = ⊥
-ActsAlone step reply w w' old new = new ≡ old
+abbrev pub ActsAlone : {S : Type 0} → Strategies → LogStep → Reply → World → World → SeenLogged S → SeenLogged S → Type 0
+ActsAlone strategies (Write ops) reply w w' old new = ActsBatch ops reply w w' old new
+ActsAlone strategies (Flush watermark) reply w w' old new = ActsFlush watermark reply w w' old new
+ActsAlone strategies Clear reply w w' old new = ActsClear reply w w' old new
+ActsAlone strategies RotateMemtable reply w w' old new = ActsRotate reply w old new
+ActsAlone strategies (FlushActiveMemtable watermark) reply w w' old new = ActsFlushActive watermark reply w w' old new
+ActsAlone strategies (Compact at watermark) reply w w' old new = ActsCompact (strategies.may_choose at) watermark reply w w' old new
+ActsAlone strategies (MajorCompact target watermark) reply w w' old new = ActsCompaction (IsMerging watermark) watermark reply w w' old new
+ActsAlone strategies (DropRange low high) reply w w' old new = ActsCompaction (DropsWithin (record { start = low; end = high }) old.core) 0 reply w w' old new
+ActsAlone strategies GetNextTableId reply w w' old new = ActsNot w w' old new
+ActsAlone strategies (SetMoment n) reply w w' old new = ActsNot w w' old new
+ActsAlone strategies (AtSlot slot step) reply w w' old new = ⊥
+ActsAlone strategies step reply w w' old new = new ≡ old
 
-abbrev pub Acts : {S : Type 0} → LogStep → Reply → World → World → LogStage S → LogStage S → Type 0
-Acts (AtSlot slot step) reply w w' old new = ActsJob step reply (old.jobs slot) w w' old.tree new.tree
-Acts step reply w w' old new = ActsAlone step reply w w' old.tree new.tree
+abbrev pub Acts : {S : Type 0} → Strategies → LogStep → Reply → World → World → LogStage S → LogStage S → Type 0
+Acts strategies (AtSlot slot step) reply w w' old new = ActsJob strategies step reply (old.jobs slot) w w' old.tree new.tree
+Acts strategies step reply w w' old new = ActsAlone strategies step reply w w' old.tree new.tree
 
 -- ---- all of it
 
@@ -121,7 +124,7 @@ Acts step reply w w' old new = ActsAlone step reply w w' old.tree new.tree
 -- leaves of them then
 pub record StepDoes {S : Type 0} (strategies : Strategies) (tells : Type 0) (world : S → World) (step : LogStep) (reply : Reply) (old new : LogStage S) : Type 0 where
   pub takes : Takes strategies step reply old new
-  pub acts : tells → Acts step reply (world old.tree.store) (world new.tree.store) old new
+  pub acts : tells → Acts strategies step reply (world old.tree.store) (world new.tree.store) old new
   pub stored : tells → StaysStored (world old.tree.store) (world new.tree.store) old.tree.core new.tree.core
   pub rest : tells → AtRest (world new.tree.store)
 

@@ -1,4 +1,5 @@
 pub mod Pasts
+pub mod Dropping
 pub mod Adds
 pub mod Images
 pub mod Trying
@@ -18,6 +19,7 @@ pub use Rattle.lsm_below.specs.Entries
 pub use Rattle.lsm_log.specs.LogNames
 pub use Rattle.lsm_log.specs.Logs
 pub use Rattle.lsm_log.specs.declared.record.Record
+pub use Rattle.lsm_log_model.specs.Numbered
 pub use Rattle.lsm_log_model.specs.Records
 pub use Rattle.lsm_log_model.specs.Recovery
 pub use Rattle.lsm_logged.specs.Meanwhile

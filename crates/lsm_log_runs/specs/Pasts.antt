@@ -6,27 +6,28 @@ use Rattle.lsm_model.specs.declared.journal.JournalEntry.TheVariants.{Write, Cle
 use Rattle.lsm_log_model.specs.Records.{Batch, entries_of}
 use Rattle.lsm_log_model.specs.Logs.{LostBatch, Logged as Log}
 use Rattle.lsm_run_model.specs.Outcomes.{sealed_in}
+use Rattle.lsm_runs.specs.OpenFlushes.{BegunFlush, none_begun}
 
 -- the journal of the calls so far, without reads; the notes beside it, newest first; the place after the last acknowledged batch; a
--- batch of unknown outcome; whether each outcome is known; and of each slot the memtables of the flush that was begun there last
+-- batch of unknown outcome; whether each outcome is known; and of each slot the flush that was begun there last
 pub record LogPast : Type 0 where
   pub journal : List Event
   pub notes : List Note
   pub reached : ℕ
   pub lost : Option LostBatch
   pub known : Bool
-  pub begun : ℕ → List ℕ
+  pub begun : ℕ → BegunFlush
 
 -- before the first call
 abbrev pub nothing : LogPast
-nothing = record { journal = []; notes = []; reached = 0; lost = None; known = true; begun = λ n. [] }
+nothing = record { journal = []; notes = []; reached = 0; lost = None; known = true; begun = none_begun }
 
 -- the place after all that was acknowledged, flushed or cleared
 abbrev pub acknowledged : LogPast → ℕ
 acknowledged past = max (covered past.notes) past.reached
 
 -- what was called of a logged tree of the theory, whether each outcome is known, and which flushes were begun
-abbrev pub past_of : Bool → (ℕ → List ℕ) → Log → LogPast
+abbrev pub past_of : Bool → (ℕ → BegunFlush) → Log → LogPast
 past_of known begun t = record { journal = t.tree.state.journal; notes = t.tree.notes; reached = t.reached; lost = t.lost; known = known; begun = begun }
 
 -- ---- what may come next
@@ -38,20 +39,26 @@ with_batch b past = let journal = past.journal ++ map Write (entries_of b) in re
 abbrev pub with_lost : Batch → LogPast → LogPast
 with_lost b past = record past { lost = Some (record { batch = b; place = length past.journal }); known = false }
 
--- an installed flush of these memtables, at a watermark, under a sequence number; of all that are sealed; and of those of the flush that
--- was begun in a slot
+-- an installed flush of these memtables, at a watermark, under a sequence number; of all that are sealed; and the flush of a slot, at its
+-- own watermark
 abbrev pub with_flushed : List ℕ → ℕ → ℕ → LogPast → LogPast
 with_flushed ids w n past = record past { journal = past.journal ++ Mark w ∷ (Install n ∷ []); notes = FlushedIds ids ∷ past.notes }
 
 abbrev pub with_flush : ℕ → ℕ → LogPast → LogPast
 with_flush w n past = with_flushed (sealed_in past.notes) w n past
 
-abbrev pub with_registry : ℕ → ℕ → ℕ → LogPast → LogPast
-with_registry slot w n past = with_flushed (past.begun slot) w n past
+abbrev pub with_registry : ℕ → ℕ → LogPast → LogPast
+with_registry slot n past = with_flushed (past.begun slot).ids (past.begun slot).watermark n past
 
--- a flush of all that is sealed is begun in a slot
+-- a flush of all that is sealed is begun in a slot; and what was begun there is merged at a watermark
+abbrev pub with_slot : ℕ → BegunFlush → LogPast → LogPast
+with_slot slot flush past = record past { begun = λ n. if n == slot then flush else past.begun n }
+
 abbrev pub with_begun : ℕ → LogPast → LogPast
-with_begun slot past = record past { begun = λ n. if n == slot then sealed_in past.notes else past.begun n }
+with_begun slot past = with_slot slot (record { ids = sealed_in past.notes; watermark = 0 }) past
+
+abbrev pub with_merged : ℕ → ℕ → LogPast → LogPast
+with_merged slot w past = with_slot slot (record { ids = (past.begun slot).ids; watermark = w }) past
 
 -- a commit after its mark, with these events; and one of unknown outcome
 abbrev pub with_commit : ℕ → List Event → LogPast → LogPast

@@ -2,10 +2,11 @@
 ghost use Rattle.std.specs.Prelude.{◌≡◌, ◌<◌, ◌≤◌, ◌^◌, take, length, IfOk, IfErr, OnOk};
 ghost use Rattle.lsm_manifest.specs.Finding.{RefusesFound};
 ghost use Rattle.lsm_runs.specs.Compacting.{strategies_of};
+ghost use Rattle.lsm_runs.specs.Dropping.{Allowance, AllowsDrops, allowed};
 ghost use Rattle.lsm_logged.specs.Meanwhile.{LeavesAsBefore};
 ghost use Rattle.lsm_logged.specs.Opening.{RefusesLogged};
 ghost use Rattle.lsm_log_runs.specs.Causes.{EachHasCause};
-ghost use Rattle.lsm_log_runs.specs.Images.{MayBeOpened};
+ghost use Rattle.lsm_log_runs.specs.Images.{CanBeRead, MayBeOpened, IsWantOf};
 ghost use Rattle.lsm_log_runs.specs.Lives.{AnyNumberOfLoggedLives, OpeningsAreLoggedLives, NewLogsOpen};
 ghost use Rattle.lsm_log_runs.specs.Living.{LivesLogged, OpensAndRuns, OpenedLogsStand, CrashedLogsOpen, StandingLogsAreTaken};
 
@@ -21,7 +22,7 @@ use lsm_pick::CompactionStrategy;
 use lsm_store::Store;
 use std::alloc::Global;
 
-/// What is opened on a store that an opening takes stands, as `run_logged` asks it, with nothing called so far.
+/// What is opened on a store that can be read stands, as `run_logged` asks it, with nothing called so far.
 ///
 /// # Examples
 ///
@@ -33,7 +34,7 @@ pub fn opened_logs_stand<S: Store>(_: &S)
     ensures { OpenedLogsStand S.tells S.world }
 {}
 
-/// What a crash left of a run on a logged tree may be opened.
+/// What a crash left of a run on a logged tree can be read, and may be opened: all that was written is numbered below 2^63.
 ///
 /// # Examples
 ///
@@ -64,7 +65,7 @@ pub fn new_logs_open<S: Store>(store: &S)
 }
 
 /// A crash or a kill in the opening of a logged tree ends a life that is only this opening; so does an opening that gives
-/// back its store. The next store may be opened, and of the calls before all is kept that was: whatever stood for a
+/// back its store. The next store can be read, and may be opened where the one before might; and of the calls before all is kept that was: whatever stood for a
 /// beginning of them between batches that holds what was acknowledged still does. `Logged::open` says so much of each
 /// moment of it, by `leaves`, whatever it answers.
 ///
@@ -83,7 +84,8 @@ pub fn openings_are_logged_lives<S: Store>(store: &S)
     found_tables_show();
 }
 
-/// A store that an opening takes is refused only for want of memory, a fault of the store, or a sequence number of 2^63 or more.
+/// A store that can be read is refused only for want of memory, a fault of the store, or a sequence number of 2^63 or more; one
+/// that may be opened, never for a number.
 ///
 /// # Examples
 ///
@@ -94,9 +96,11 @@ pub fn standing_logs_are_taken<S: Store>(store: &S)
     ensures { S.tells → StandingLogsAreTaken S.world }
 {
     opening_finds(store);
+    images_stand_once();
 }
 
-/// Over any number of lives of usual steps (no batch removes a key weakly), each ended by a crash in its last step or
+/// Over any number of lives of usual steps (no batch removes a key weakly), whose strategies drop just ranges that may be
+/// dropped, each ended by a crash in its last step or
 /// after it, or as its process is killed there or ends: the next store may be opened, and is kept of the life: it stands
 /// for a beginning of its calls between batches, which holds all that was acknowledged, flushed or cleared before the last
 /// step, and where the end came after that one, what it acknowledged too. A life may also end in its opening: then all is
@@ -108,7 +112,7 @@ pub fn standing_logs_are_taken<S: Store>(store: &S)
 /// any_number_of_logged_lives(&store);
 /// ```
 pub fn any_number_of_logged_lives<S: Store>(store: &S)
-    ensures { S.tells → AnyNumberOfLoggedLives S.world }
+    ensures { S.tells → (may : Allowance) → AnyNumberOfLoggedLives (allowed may) S.world }
 {
     images_stand_once();
     unread_names_dont_matter();
@@ -126,7 +130,7 @@ fn counter_fits<S: Store>(tree: &Logged<S>)
 /// Opens the logged tree of a store, as `Logged::open`, and takes steps on it, as `run_logged`. It answers the tree and the steps
 /// that were taken, or the refusal of the opening beside the store.
 ///
-/// Where an opening takes the store (`MayBeOpened`), this is a life (`lives`): reads are the replay over the map that the store
+/// Where the store can be read (`CanBeRead`), this is a life (`lives`): reads are the replay over the map that the store
 /// stands for, and at each moment of the steps a crash leaves an image that stands for a beginning of them between batches, which
 /// holds all that was acknowledged, flushed or cleared before the step of that moment.
 ///
@@ -150,15 +154,17 @@ pub fn live_logged<S: Store>(
     ensures whole { IfOk result (λ r. OnOk r.1.ended (length r.1.replies.items ≡ length steps.now)) }
     // It is what `Logged::open` makes of the store, with a run on it: calls may go on from there.
     ensures runs { IfOk result (λ r. OpensAndRuns S.tells S.world (strategies_of (λ b. may_choose b) (λ b. may_refuse b) strategies.now) config (take (length r.1.replies.items) steps.now) r.1.replies.items store r.0) }
-    // A life, however it ends.
-    ensures lives { S.tells → MayBeOpened (S.world store) → IfOk result (λ r. LivesLogged S.world (take (length r.1.replies.items) steps.now) r.1.replies.items store r.0.store) }
+    // A life, however it ends, where the strategies may drop just such ranges.
+    ensures lives { S.tells → (may : Allowance) → AllowsDrops (allowed may) (strategies_of (λ b. may_choose b) (λ b. may_refuse b) strategies.now) → CanBeRead (S.world store) → IfOk result (λ r. LivesLogged (allowed may) S.world config.seqno (take (length r.1.replies.items) steps.now) r.1.replies.items store r.0.store) }
     // The store is blamed only where a call of it failed.
     ensures causes { IfOk result (λ r. EachHasCause S.world r.1.replies.items store r.0.store) }
     ensures refused { S.tells → IfErr result (λ e. RefusesLogged (S.world store) (S.world e.1) e.0) }
     // Such a store is refused only for want of memory, a fault of the store, or a sequence number of 2^63 or more.
-    ensures only { S.tells → MayBeOpened (S.world store) → IfErr result (λ e. RefusesFound (S.world store).gives e.0) }
+    ensures only { S.tells → CanBeRead (S.world store) → IfErr result (λ e. RefusesFound (S.world store).gives e.0) }
+    // One that may be opened is never refused for a number.
+    ensures wants { S.tells → MayBeOpened (S.world store) → IfErr result (λ e. IsWantOf e.0) }
     // Refused it is a life that ended in its opening.
-    ensures opening { S.tells → MayBeOpened (S.world store) → IfErr result (λ e. LeavesAsBefore (S.world store) (S.world e.1)) }
+    ensures opening { S.tells → CanBeRead (S.world store) → IfErr result (λ e. LeavesAsBefore (S.world store) (S.world e.1)) }
 {
     opened_logs_stand(&store);
     standing_logs_are_taken(&store);

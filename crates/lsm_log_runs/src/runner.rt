@@ -18,7 +18,7 @@ use lsm_below::UserKey;
 use lsm_commit::{crashes_leave_versions, stored_files_are_ready};
 use lsm_journal::{noted_compactions_keep_reads, share_ops};
 use lsm_log_model::{
-    acts_join, counter_stays_above, every_crash_keeps_batches, log_stays_sound,
+    acts_join, counter_stays_above, every_crash_keeps_batches, left_is_numbered, log_stays_sound,
     logged_reads_are_right, whole_is_logged,
 };
 use lsm_logged::{Logged, logs_can_be_settled, records_are_those_read, versions_are_told_once};
@@ -75,7 +75,7 @@ fn take_step<S: Store>(
     ensures ok { IfOk result (λ reply. Takes (strategies_of (λ b. may_choose b) (λ b. may_refuse b) strategies.now) step.now reply (beside tree.old slots.old) (beside tree.new slots.new)) }
     ensures err { OnErr result (tree.new ≡ tree.old) }
     ensures slots_err { OnErr result (SameJobs slots.old slots.new) }
-    ensures acts { S.tells → IfOk result (λ reply. Acts step.now reply (S.world tree.old.store) (S.world tree.new.store) (beside tree.old slots.old) (beside tree.new slots.new)) }
+    ensures acts { S.tells → IfOk result (λ reply. Acts (strategies_of (λ b. may_choose b) (λ b. may_refuse b) strategies.now) step.now reply (S.world tree.old.store) (S.world tree.new.store) (beside tree.old slots.old) (beside tree.new slots.new)) }
     ensures stored { S.tells → StaysStored (S.world tree.old.store) (S.world tree.new.store) tree.old.core tree.new.core }
     ensures causes { IfOk result (λ reply. HasCause (ReplyBlames reply) (S.world tree.old.store) (S.world tree.new.store)) }
 {
@@ -195,7 +195,8 @@ fn take_steps<S: Store>(
 /// sees but a write, a clear or a drop numbered below it; at each moment a crash leaves an image that `Logged::open` takes,
 /// and that stands for a beginning of the calls between batches, which holds all that was acknowledged, flushed or cleared
 /// before the step of that moment: each batch is in it whole, or not at all. While every outcome is known, an image stands
-/// for all that was called. A process that is killed in a step leaves what `Logged::open` takes, too. After each step the
+/// for all that was called. A process that is killed in a step leaves what `Logged::open` takes, too. Nothing that is left is
+/// numbered higher than what was opened or written, so `Logged::open` never refuses it for its numbers. After each step the
 /// same holds again, so that calls may go on.
 ///
 /// # Examples
@@ -216,7 +217,7 @@ pub fn run_logged<S: Store>(
     // Each step is the call that it is named after.
     ensures ran { RanLogged (strategies_of (λ b. may_choose b) (λ b. may_refuse b) strategies.now) (take (length result.replies.items) steps.now) result.replies.items tree.old tree.new }
     // What is read and spared, what a crash or a kill leaves at each moment, and what stands after each step.
-    ensures runs { S.tells → RunsLogged S.world (take (length result.replies.items) steps.now) result.replies.items tree.old tree.new }
+    ensures runs { S.tells → RunsLogged (strategies_of (λ b. may_choose b) (λ b. may_refuse b) strategies.now) S.world (take (length result.replies.items) steps.now) result.replies.items tree.old tree.new }
     // The store is blamed only where a call of it failed.
     ensures causes { EachHasCause S.world result.replies.items tree.old.store tree.new.store }
 {
@@ -228,6 +229,7 @@ pub fn run_logged<S: Store>(
     every_crash_keeps_batches();
     whole_is_logged();
     logged_reads_are_right();
+    left_is_numbered();
     noted_compactions_keep_reads();
     records_are_those_read();
     versions_are_told_once();

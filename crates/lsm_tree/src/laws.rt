@@ -19,7 +19,7 @@ pub use lsm_model::{
     maps_are_read, opening_starts, parts_are_whole, reads_are_sound, tables_are_placed,
     tables_show_above,
 };
-pub use lsm_pick::leveled_is_lawful;
+pub use lsm_pick::{leveled_is_lawful, leveled_never_drops, major_never_drops};
 pub use lsm_runs::{any_number_of_lives, openings_are_lives, runs_are_lives};
 pub use lsm_state::{
     clears_keep_reads, compactions_are_deeds, compactions_keep_reads, flushes_are_deeds,

@@ -4,6 +4,7 @@ ghost use Rattle.lsm_commit.specs.Causes.{HasCause, Blames};
 ghost use Rattle.lsm_runs.specs.Causes.{ReplyBlames};
 ghost use Rattle.lsm_runs.specs.Compacting.{strategies_of};
 ghost use Rattle.lsm_runs.specs.Files.{StaysStored};
+ghost use Rattle.lsm_state.specs.Dropping.{MayDropIds};
 ghost use Rattle.lsm_state.specs.WholeCompactions.{as_begun, Compacts, DropsRange, options_at, only_memory, major_choice};
 ghost use Rattle.lsm_logged.specs.Acting.{ActsNot, IsMerging, DropsWithin, CompactsAct};
 ghost use Rattle.lsm_logged.specs.Asking.{Asks};
@@ -89,7 +90,7 @@ fn compact_boxed<S: Store>(
     watermark: SeqNo,
 ) -> Result<Option<Finished>, Error>
     ensures asks { Asks (as_begun result) tree.old tree.new (Compacts (may_choose strategy.now) (may_refuse strategy.now) (options_at watermark tree.old.core) (as_begun result) tree.old.core tree.new.core) }
-    ensures acts { S.tells → CompactsAct watermark (as_begun result) (S.world tree.old.store) (S.world tree.new.store) tree.old tree.new }
+    ensures acts { S.tells → CompactsAct (MayDropIds (may_choose strategy.now) tree.old.core) watermark (as_begun result) (S.world tree.old.store) (S.world tree.new.store) tree.old tree.new }
     ensures stored { S.tells → StaysStored (S.world tree.old.store) (S.world tree.new.store) tree.old.core tree.new.core }
     ensures causes { HasCause (Blames (as_begun result)) (S.world tree.old.store) (S.world tree.new.store) }
 {
@@ -103,7 +104,7 @@ pub(super) fn compact<S: Store>(
     watermark: SeqNo,
 ) -> Reply
     ensures takes { TakesCompact (strategies_of (λ b. may_choose b) (λ b. may_refuse b) strategies.now) at watermark result tree.old tree.new }
-    ensures acts { S.tells → ActsCompact watermark result (S.world tree.old.store) (S.world tree.new.store) tree.old tree.new }
+    ensures acts { S.tells → ActsCompact ((strategies_of (λ b. may_choose b) (λ b. may_refuse b) strategies.now).may_choose at) watermark result (S.world tree.old.store) (S.world tree.new.store) tree.old tree.new }
     ensures stored { S.tells → StaysStored (S.world tree.old.store) (S.world tree.new.store) tree.old.core tree.new.core }
     ensures causes { HasCause (ReplyBlames result) (S.world tree.old.store) (S.world tree.new.store) }
 {

@@ -24,7 +24,7 @@ fn take_job<S: Store>(
     step: JobStep,
 ) -> Reply
     ensures takes { TakesJob (strategies_of (λ b. may_choose b) (λ b. may_refuse b) strategies.now) step result place.old place.new tree.old tree.new }
-    ensures acts { S.tells → ActsJob step result place.old (S.world tree.old.store) (S.world tree.new.store) tree.old tree.new }
+    ensures acts { S.tells → ActsJob (strategies_of (λ b. may_choose b) (λ b. may_refuse b) strategies.now) step result place.old (S.world tree.old.store) (S.world tree.new.store) tree.old tree.new }
     ensures stored { S.tells → StaysStored (S.world tree.old.store) (S.world tree.new.store) tree.old.core tree.new.core }
     ensures causes { HasCause (ReplyBlames result) (S.world tree.old.store) (S.world tree.new.store) }
 {
@@ -54,7 +54,7 @@ pub(super) fn at_slot<S: Store>(
     ensures ok { IfOk result (λ reply. TakesInSlot (strategies_of (λ b. may_choose b) (λ b. may_refuse b) strategies.now) slot step reply (beside tree.old slots.old) (beside tree.new slots.new)) }
     ensures err { OnErr result (tree.new ≡ tree.old) }
     ensures slots_err { OnErr result (SameJobs slots.old slots.new) }
-    ensures acts { S.tells → IfOk result (λ reply. ActsJob step reply (job_in slots.old slot) (S.world tree.old.store) (S.world tree.new.store) tree.old tree.new) }
+    ensures acts { S.tells → IfOk result (λ reply. ActsJob (strategies_of (λ b. may_choose b) (λ b. may_refuse b) strategies.now) step reply (job_in slots.old slot) (S.world tree.old.store) (S.world tree.new.store) tree.old tree.new) }
     ensures stored { S.tells → StaysStored (S.world tree.old.store) (S.world tree.new.store) tree.old.core tree.new.core }
     ensures causes { IfOk result (λ reply. HasCause (ReplyBlames reply) (S.world tree.old.store) (S.world tree.new.store)) }
 {

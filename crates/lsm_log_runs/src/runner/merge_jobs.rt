@@ -5,6 +5,7 @@ ghost use Rattle.lsm_runs.specs.Causes.{ReplyBlames};
 ghost use Rattle.lsm_runs.specs.Compacting.{strategies_of, TakesRunCompaction};
 ghost use Rattle.lsm_runs.specs.Files.{StaysStored};
 ghost use Rattle.lsm_state.specs.Compactions.{BeginsCompaction};
+ghost use Rattle.lsm_state.specs.Dropping.{MayDropIds};
 ghost use Rattle.lsm_logged.specs.Acting.{CompactsAct};
 ghost use Rattle.lsm_logged.specs.Asking.{Asks};
 ghost use Rattle.lsm_log_runs.specs.Doing.{ActsNothing, ActsCompact, ActsMerge};
@@ -24,7 +25,7 @@ fn begin_boxed<S: Store>(
     options: Options,
 ) -> Result<Begun, Error>
     ensures asks { Asks result tree.old tree.new (BeginsCompaction (may_choose strategy.now) (may_refuse strategy.now) options result tree.old.core tree.new.core) }
-    ensures acts { S.tells → CompactsAct options.mvcc_gc_watermark result (S.world tree.old.store) (S.world tree.new.store) tree.old tree.new }
+    ensures acts { S.tells → CompactsAct (MayDropIds (may_choose strategy.now) tree.old.core) options.mvcc_gc_watermark result (S.world tree.old.store) (S.world tree.new.store) tree.old tree.new }
     ensures stored { S.tells → StaysStored (S.world tree.old.store) (S.world tree.new.store) tree.old.core tree.new.core }
     ensures causes { HasCause (Blames result) (S.world tree.old.store) (S.world tree.new.store) }
 {
@@ -39,7 +40,7 @@ pub(super) fn begin_compaction<S: Store>(
     options: Options,
 ) -> Reply
     ensures takes { TakesBeginCompaction (strategies_of (λ b. may_choose b) (λ b. may_refuse b) strategies.now) at options result place.old place.new tree.old tree.new }
-    ensures acts { S.tells → ActsCompact options.mvcc_gc_watermark result (S.world tree.old.store) (S.world tree.new.store) tree.old tree.new }
+    ensures acts { S.tells → ActsCompact ((strategies_of (λ b. may_choose b) (λ b. may_refuse b) strategies.now).may_choose at) options.mvcc_gc_watermark result (S.world tree.old.store) (S.world tree.new.store) tree.old tree.new }
     ensures stored { S.tells → StaysStored (S.world tree.old.store) (S.world tree.new.store) tree.old.core tree.new.core }
     ensures causes { HasCause (ReplyBlames result) (S.world tree.old.store) (S.world tree.new.store) }
 {

@@ -3,7 +3,7 @@ use Rattle.std.proofs.lemmas.Option.{slice_get_read}
 use Rattle.lsm_runs.specs.Compacting.{strategies_of}
 use Rattle.lsm_state.specs.Compactions.{BeginsCompaction}
 use Rattle.lsm_runs.proofs.Causing.{begun_cause}
-use Rattle.lsm_log_runs.proofs.Compacting.{asked_at, begun_taken, compact_acts}
+use Rattle.lsm_log_runs.proofs.Compacting.{asked_at, acts_at, begun_taken, compact_acts}
 use Rattle.lsm_log_runs.proofs.runner.merge_jobs.begin_compaction.Goals as goal
 
 pub returns-clause-takes : goal.returns-clause-takes
@@ -29,7 +29,13 @@ pub returns-clause-acts : goal.returns-clause-acts
 returns-clause-acts g c tells =
     let world = g.S.Store.world in
     let told = c.of_begun-reply in
-    compact_acts c.args.tree.now c.begin_boxed.new.tree told.result.0 c.begin_boxed.result told.ensures.reply (world c.args.tree.now.store) (world c.begin_boxed.new.tree.store) c.args.options.mvcc_gc_watermark (c.begin_boxed.ensures.acts tells)
+    let list = c.args.strategies.now in
+    let strategy = c.in-Some.strategy.now in
+    let there : slice_get list c.args.at ≡ Some strategy = search (rules, slice_get_read list (length list) c.args.at strategy refl) in
+    let old = c.args.tree.now in
+    let new = c.begin_boxed.new.tree in
+    acts_at (λ b. (goal.CompactionStrategy-dyn g (b.vtable, b.value)).may_choose b.value) (λ b. (goal.CompactionStrategy-dyn g (b.vtable, b.value)).may_refuse b.value) list c.args.at strategy c.args.options.mvcc_gc_watermark told.result.0 (world old.store) (world new.store) old new there
+    (compact_acts old new told.result.0 c.begin_boxed.result told.ensures.reply (world old.store) (world new.store) _ c.args.options.mvcc_gc_watermark (c.begin_boxed.ensures.acts tells))
 
 pub returns-clause-causes : goal.returns-clause-causes
 returns-clause-causes g c =
