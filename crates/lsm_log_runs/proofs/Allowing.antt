@@ -24,7 +24,7 @@ use Rattle.lsm_runs.specs.declared.steps.Reply.{Reply}
 use Rattle.lsm_runs.specs.declared.steps.Reply.TheVariants.{Compacted, Refused}
 use Rattle.lsm_log_runs.specs.declared.steps.LogStep.{LogStep}
 use Rattle.lsm_log_runs.specs.declared.steps.LogStep.TheVariants.{AtSlot, Compact, MajorCompact, DropRange}
-use Rattle.lsm_log_runs.specs.Adds.{IsDrop, AddsCompaction, AddsJob, Adds}
+use Rattle.lsm_log_runs.specs.Adds.{IsDrop, AddsCompaction, AddsJob, LogAdds}
 use Rattle.lsm_log_runs.specs.Dropping.{DropsBy, MayDropBy}
 use Rattle.lsm_log_runs.specs.Pasts.{LogPast}
 
@@ -47,7 +47,7 @@ module _ (Less More : List Range → Type 0) (grows : (ranges : List Range) → 
   job_more slot (BeginCompaction at o) reply old new h = compaction_more o.mvcc_gc_watermark reply old new h
   job_more slot step reply old new h = h
 
-  pub adds_more : (x : LogStep) (reply : Reply) (old new : LogPast) → Adds Less c x reply old new → Adds More c x reply old new
+  pub adds_more : (x : LogStep) (reply : Reply) (old new : LogPast) → LogAdds Less c x reply old new → LogAdds More c x reply old new
   adds_more (Compact at w) reply old new h = compaction_more w reply old new h
   adds_more (MajorCompact target w) reply old new h = compaction_more w reply old new h
   adds_more (DropRange low high) reply old new h = compaction_more 0 reply old new h

@@ -1,5 +1,5 @@
 -- Where the reply of a step blames the store, a call of it failed in that step.
-use Rattle.std.proofs.Common.{◌≡◌, ◌⊎◌, ⊎_elim, inl, inr, ℕ, Bool, true, false, List, [], ◌∷◌, ◌++◌, Option, Some, None, IfSome, Result, Ok, Err, refl, sym, ap, ◌∙◌, subst}
+use Rattle.std.proofs.Common.{◌≡◌, ◌⊎◌, ⊎_elim, inl, inr, ℕ, Bool, true, false, List, [], ◌∷◌, Option, Some, None, IfSome, Result, Ok, Err, refl, sym, ap, ◌∙◌, subst}
 use Rattle.lsm_below.specs.Keys.{Bytes}
 use Rattle.lsm_below.specs.declared.error.Error.{Error}
 use Rattle.lsm_below.specs.declared.error.Error.TheVariants.{OutOfMemory, Store, CommitUnknown, AfterCommit, OutOfNumbers, Unrecoverable, FlushOpen}
@@ -14,7 +14,7 @@ use Rattle.lsm_runs.specs.Files.{StepHasCause}
 use Rattle.lsm_runs.specs.Flushing.{TakesRun}
 use Rattle.lsm_runs.specs.Runs.{TakesAlone as TakesInRun}
 use Rattle.lsm_runs.specs.Told.{Told as Outcome}
-use Rattle.lsm_runs.proofs.Causing.{blames, Blameless, named, batch_reason, from_same, alone_cause}
+use Rattle.lsm_runs.proofs.Causing.{blames, Blameless, named, batch_reason, alone_cause}
 use Rattle.lsm_runs.specs.declared.slots.Job.{Job}
 use Rattle.lsm_runs.specs.declared.steps.Reply.{Reply}
 use Rattle.lsm_runs.specs.declared.steps.Step.{Step}
@@ -26,7 +26,6 @@ use Rattle.lsm_state.specs.declared.compaction.Finished.{Finished}
 use Rattle.lsm_logged.specs.Flushing.{BeginsLogged}
 use Rattle.lsm_logged.specs.Keeping.{SeenLogged, is_unsure}
 use Rattle.lsm_logged.specs.Writing.{WritesLogged}
-use Rattle.lsm_log_runs.specs.Causes.{EachHasCause}
 use Rattle.lsm_log_runs.specs.JobSteps.{TakesBegin, TakesAbandon, TakesAbandonCompaction}
 use Rattle.lsm_log_runs.specs.Runs.{TakesRotate, TakesMoment, TakesTableId}
 
@@ -142,15 +141,18 @@ pub finished_cause : (r : Result Finished Error) (reply : Reply) (w w' : World) 
 finished_cause (Ok f) reply w w' is c = rw is c
 finished_cause (Err e) reply w w' is c = rw is c
 
--- ---- runs
+-- ---- openings
 
-module _ {F : Type 0} (world : F → World) where
-  -- one more step
-  pub causes_more : (rs : List Reply) (r : Reply) (was mid is : F) → EachHasCause world rs was mid → HasCause (ReplyBlames r) (world mid) (world is) → EachHasCause world (rs ++ r ∷ []) was is
-  causes_more [] r was mid is same c = (is, from_same (ReplyBlames r) (world was) (world mid) (world is) same c, refl)
-  causes_more (x ∷ rs) r was mid is each c = (each.0, each.1, causes_more rs r each.0 mid is each.2 c)
+-- what is counted of a refusal doesn't depend on what else might have been answered
+pub counted_as : {A B : Type 0} (w w' : World) (e : Error) → CountsFaults {T = A} w w' (Err e) → CountsFaults {T = B} w w' (Err e)
+counted_as {A} {B} w w' e counts = record {
+  store = λ h. counts.store (as_error Store h);
+  unknown = λ h. counts.unknown (as_error CommitUnknown h);
+  none = λ not_store not_unknown. counts.none (λ h. not_store (back Store h)) (λ h. not_unknown (back CommitUnknown h));
+}
+  where
+    as_error : (x : Error) → ◌≡◌ {A = Result B Error} (Err e) (Err x) → ◌≡◌ {A = Result A Error} (Err e) (Err x)
+    as_error x h = let same : e ≡ x = cc h in ap Err same
 
-  -- before them no call failed
-  pub causes_behind : (rs : List Reply) (was first is : F) → (world first).failures ≡ (world was).failures → EachHasCause world rs first is → EachHasCause world rs was is
-  causes_behind [] was first is before same = same ∙ before
-  causes_behind (r ∷ rs) was first is before each = (each.0, from_same (ReplyBlames r) (world was) (world first) (world each.0) before each.1, each.2)
+    back : (x : Error) → ◌≡◌ {A = Result A Error} (Err e) (Err x) → ◌≡◌ {A = Result B Error} (Err e) (Err x)
+    back x h = let same : e ≡ x = cc h in ap Err same

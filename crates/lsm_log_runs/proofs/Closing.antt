@@ -22,10 +22,11 @@ use Rattle.lsm_state.specs.Core.{Core, versions_left, written_of}
 use Rattle.lsm_state.specs.Flushes.{sealed_ids, spent}
 use Rattle.lsm_logged.specs.Flushing.{BeginsLogged}
 use Rattle.lsm_logged.specs.Keeping.{SeenLogged, IsLogOf, KeepsLog}
+use Rattle.lsm_log_runs.specs.LoggedRuns.{called}
 use Rattle.lsm_log_runs.specs.Pasts.{LogPast}
-use Rattle.lsm_log_runs.specs.Slots.{LogStage, StaysBeside, AreAllThatWait, EndsLogged, ClosesLogged}
-use Rattle.lsm_log_runs.specs.Standing.{StandsLogged}
-use Rattle.lsm_log_runs.proofs.Waiting.{begins_of}
+use Rattle.lsm_log_runs.specs.Slots.{LogStage, at_first, StaysBeside, AreAllThatWait, EndsLogged, ClosesLogged}
+use Rattle.lsm_log_runs.specs.Standing.{IsUnder, StandsLogged, StandsWithJobs}
+use Rattle.lsm_log_runs.proofs.Waiting.{begins_of, first_waiting}
 
 -- ---- all jobs
 
@@ -43,7 +44,7 @@ all_waiting slots ordered n job = (λ waits. there (get nat_cmp slots n) refl wa
         none_waits e = cc
     there (Some place) found waits = (btree_map_get_iff nat_cmp_total exact_unsigned slots ordered n (Some job)).0 (found ∙ ap (λ (p : Option Job). Some p) (sym (ap waiting found) ∙ waits))
 
-pub ends_closes : {S : Type 0} (last : LogStage S) (new : SeenLogged S) → EndsLogged last new → ClosesLogged last.tree new
+ends_closes : {S : Type 0} (last : LogStage S) (new : SeenLogged S) → EndsLogged last new → ClosesLogged last.tree new
 ends_closes last new e = record { core = all_closes e.places last.tree.core new.core e.given_up; rest = e.rest }
 
 -- ---- what stands
@@ -51,17 +52,21 @@ ends_closes last new e = record { core = all_closes e.places last.tree.core new.
 closed_is : (journal : List Event) (notes : List Note) (old new : Core) (log : Log) → Closes old new → (doubted : Bool) → IsLogOf journal notes old doubted log → IsLogOf journal notes new doubted log
 closed_is journal notes old new log c doubted is = subst (λ (x : Core). IsLogOf journal notes x doubted log) (sym c.rest) (record { tree = is.tree; from = is.from; other = is.other; doubt = is.doubt })
 
-pub closed_stands : {S : Type 0} (world : S → World) (image : LogImage) (past : LogPast) (old new : SeenLogged S) → ClosesLogged old new → StandsLogged world image past old → StandsLogged world image past new
+closed_stands : {S : Type 0} (world : S → World) (image : LogImage) (past : LogPast) (old new : SeenLogged S) → ClosesLogged old new → StandsLogged world image past old → StandsLogged world image past new
 closed_stands {S} world image past old new c s = record {
   log = s.log;
   came = s.came;
   is = subst (λ b. IsLogOf past.journal past.notes new.core b s.log) (sym c.rest.doubt) (closed_is past.journal past.notes old.core new.core s.log c.core old.doubted s.is);
   keeps = subst (λ (x : S). KeepsLog (world x) s.log) (sym c.rest.store) s.keeps;
   next = subst (λ (x : Core). MayBeDrawn (opened_by image) s.log x.seqno) (sym c.core.rest) s.next;
+  under = subst (λ (x : Core). IsUnder x.seqno s.log) (sym c.core.rest) s.under;
   stored = closed_stored world old.store new.store old.core new.core c.core c.rest.store s.stored;
   apart = subst (λ (x : Core). AreApart (versions_left x)) (sym c.core.rest) s.apart;
   small = s.small;
 }
+
+pub given_up_stands : {S : Type 0} (world : S → World) (image : LogImage) (past : LogPast) (last : LogStage S) (new : SeenLogged S) → EndsLogged last new → StandsWithJobs world image (called last past) → StandsWithJobs world image (called (at_first new) past)
+given_up_stands world image past last new ends s = record { tree = closed_stands world image past last.tree new (ends_closes last new ends) s.tree; waits = first_waiting past }
 
 -- ---- what stays stored
 

@@ -32,7 +32,7 @@ use Rattle.lsm_log_runs.specs.Adds.{AddsRotation, AddsFlush, AddsFlushActive, Is
 use Rattle.lsm_log_runs.specs.Doing.{ActsRotate, ActsFlush, ActsBehind, ActsFlushActive, ActsCompaction, ActsCompact}
 use Rattle.lsm_log_runs.specs.Dropping.{ranges_within}
 use Rattle.lsm_log_runs.specs.Images.{Keeps}
-use Rattle.lsm_log_runs.specs.Leading.{SparesAnswers}
+use Rattle.lsm_log_runs.specs.LoggedRuns.{SparesAnswers}
 use Rattle.lsm_log_runs.specs.Pasts.{LogPast, acknowledged, with_commit, with_doubt, with_sealed}
 use Rattle.lsm_log_runs.specs.Runs.{TakesRotate}
 use Rattle.lsm_log_runs.specs.Standing.{StandsLogged}
@@ -132,10 +132,8 @@ module _ {S : Type 0} (world : S → World) (reading : Reading) (between : Store
         (at.0, at.1, subst (λ c. AddsFlush c watermark reply at.0 led.0) (rotated_same old.core id mid.core both.rotates.0) led.1),
         record {
           stands = led.2.stands;
-          inside = subst (λ (x : S). LeavesOnly (world x) (world new.store) (Keeps (opened_by image) (logged image) led.0 (acknowledged past))) same (subst (λ n. LeavesOnly (world mid.store) (world new.store) (Keeps (opened_by image) (logged image) led.0 n)) at.2 led.2.inside);
-          now = led.2.now;
-          again = led.2.again;
-          whole = led.2.whole;
+          inside = subst (λ (x : S). LeavesOnly (world x) (world new.store) (Keeps (opened_by image) (logged image) led.0 (acknowledged past) new.core.seqno)) same (subst (λ n. LeavesOnly (world mid.store) (world new.store) (Keeps (opened_by image) (logged image) led.0 n new.core.seqno)) at.2 led.2.inside);
+          then = led.2.then;
           versions = subst (λ (x : S). LeavesOnly (world x) (world new.store) (HoldsOneOf (versions_left old.core ++ versions_left new.core))) same (subst (λ (vs : List SeenVersion). LeavesOnly (world mid.store) (world new.store) (HoldsOneOf (vs ++ versions_left new.core))) rests.versions led.2.versions);
           spares = spares_then past at.0 led.0 old.core mid.core new.core at.4 at.5 led.2.spares;
         },

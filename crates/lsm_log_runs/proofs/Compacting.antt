@@ -21,6 +21,7 @@ use Rattle.lsm_logged.specs.Asking.{Asks}
 use Rattle.lsm_logged.specs.Keeping.{SeenLogged}
 use Rattle.lsm_log_runs.specs.Doing.{ActsCompact, ActsMerge}
 use Rattle.lsm_log_runs.specs.JobSteps.{BeginsFrom, TakesBeginCompaction}
+use Rattle.lsm_log_runs.specs.LoggedRuns.{CompactionsAreSteps}
 use Rattle.lsm_log_runs.specs.Runs.{TakesCompact}
 
 -- a call that asks a strategy of a list asks the one at its index
@@ -63,6 +64,14 @@ module _ {S : Type 0} (old new : SeenLogged S) (reply : Reply) (begun : Result B
       go (Ok Installed) a = a
       go (Ok (BegunJob job)) a = a
       go (Err x) a = a
+
+-- so a call of one's own is the step that names the strategy's index
+pub compact_step : {S : Type 0} (tells : Type 0) (strategies : Strategies) (world : S → World) → CompactionsAreSteps tells strategies world
+compact_step tells strategies world at watermark begun jobs old new there asks acts stored = record {
+  takes = (compact_taken old new (reply_of begun) begun refl strategies at watermark there asks, refl);
+  acts = λ told. compact_acts old new (reply_of begun) begun refl (world old.store) (world new.store) (strategies.may_choose at) watermark (acts told);
+  stored = stored;
+}
 
 -- the end of a merge
 module _ {S : Type 0} (old new : SeenLogged S) (reply : Reply) (end : Result Finished Error) (told : reply ≡ end_reply_of end) (was : Option Job) where

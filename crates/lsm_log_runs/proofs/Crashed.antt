@@ -25,8 +25,8 @@ begins_given w left begins = subst (λ (image : Image). Begins image w) (sym (gi
 pub only_given : (w : World) → Begins w.gives w → (image : Image) → IsImage w.may image → w.gives ≡ image
 only_given w begins image may = sym (image_same w.gives image (λ n. (begins.may n (image n)).0 (may n)))
 
-pub still_kept : (opened : List Entry) (start : Map) (past : LogPast) (least : ℕ) (w : World) → Begins w.gives w → Keeps opened start past least w.gives → StillKept opened start past least w
-still_kept opened start past least w begins keeps image may = subst (Keeps opened start past least) (only_given w begins image may) keeps
+pub still_kept : (opened : List Entry) (start : Map) (past : LogPast) (least counter : ℕ) (w : World) → Begins w.gives w → Keeps opened start past least counter w.gives → StillKept opened start past least counter w
+still_kept opened start past least counter w begins keeps image may = subst (Keeps opened start past least counter) (only_given w begins image may) keeps
 
 pub still_small : (w : World) → Begins w.gives w → HoldsLogged IsSmall w.gives → (image : Image) → IsImage w.may image → HoldsLogged IsSmall image
 still_small w begins small image may = subst (HoldsLogged IsSmall) (only_given w begins image may) small

@@ -17,7 +17,7 @@ use Rattle.lsm_logged.specs.Meanwhile.{ReadsVersion, AreReadFrom, ReadsSame, Rea
 use Rattle.lsm_logged.specs.Opening.{CanBeSettled, image_read}
 use Rattle.lsm_logged.proofs.Versions.{version_is_one}
 use Rattle.lsm_run_model.specs.Lives.{End, Crashed, Killed, EndsIn, TakesUp}
-use Rattle.lsm_log_runs.specs.Images.{ReadsLog, HoldsLogged, HoldsPast, Keeps, IsSmall, CanBeRead, MayBeOpened}
+use Rattle.lsm_log_runs.specs.Images.{ReadsLog, HoldsLogged, HoldsPast, Keeps, IsSmall, CanBeRead, LogMayBeOpened}
 use Rattle.lsm_log_runs.specs.Lives.{StillKept, OpeningLife, GoesOn}
 use Rattle.lsm_log_runs.specs.Pasts.{LogPast}
 use Rattle.lsm_log_runs.proofs.Crashed.{given_is, begins_given, only_given, still_small, crashed_reads}
@@ -133,12 +133,12 @@ module _ (once : FoundOnce) (unread : UnreadNamesDontMatter) (old cut : World) (
   reads_again = stands_read once unread cut (λ image at. let b = before image at in held_same once LogStands b.0 image b.2 (may.stands b.0 b.1)) (record { found = finds; once = same_found; none = none_found })
 
   -- and opened, where that was so before
-  pub opens_again : MayBeOpened old → MayBeOpened cut
+  pub opens_again : LogMayBeOpened old → LogMayBeOpened cut
   opens_again opens = record { read = reads_again; small = λ image at. let b = before image at in held_same once IsSmall b.0 image b.2 (opens.small b.0 b.1) }
 
 -- whatever it leaves is kept as before
-pub kept_on : FoundOnce → (opened : List Entry) (start : Map) (past : LogPast) (least : ℕ) (old : World) (image : Image) → StillKept opened start past least old → ReadsAsBefore old image → Keeps opened start past least image
-kept_on once opened start past least old image kept b = held_same once (HoldsPast opened start past least) b.0 image b.2 (kept b.0 b.1)
+pub kept_on : FoundOnce → (opened : List Entry) (start : Map) (past : LogPast) (least counter : ℕ) (old : World) (image : Image) → StillKept opened start past least counter old → ReadsAsBefore old image → Keeps opened start past least counter image
+kept_on once opened start past least counter old image kept b = held_same once (HoldsPast opened start past least counter) b.0 image b.2 (kept b.0 b.1)
 
 module _ {F : Type 0} (world : F → World) (once : FoundOnce) (unread : UnreadNamesDontMatter) (shows : FoundTablesShow) (ready : (store : F) (image : Image) (m : Map) → StandsForMap image m → Begins image (world store) → IsReady (world store)) (settles : (store : F) (image : Image) (from : ℕ) → Begins image (world store) → CanBeSettled (world store) from) where
   pub goes_on : (was next : F) → OpeningLife world was next → GoesOn world was next
@@ -152,12 +152,12 @@ module _ {F : Type 0} (world : F → World) (once : FoundOnce) (unread : UnreadN
           record {
             reads = reads;
             opens = λ opens. record { read = reads; small = still_small (world next) given (held_same once IsSmall b.0 (world next).gives b.2 (opens.small b.0 b.1)) };
-            keeps = λ opened start past least kept image at. subst (Keeps opened start past least) (only_given (world next) given image at) (kept_on once opened start past least (world was) (world next).gives kept b);
+            keeps = λ opened start past least counter kept image at. subst (Keeps opened start past least counter) (only_given (world next) given image at) (kept_on once opened start past least counter (world was) (world next).gives kept b);
           }
       by (Killed cut) ends same =
           let before = λ (image : Image) (at : IsImage (world next).may image). o.leaves.meanwhile.each image (ends.each image (λ n. (same.may n (image n)).0 (at n))) in
           record {
             reads = reads_again once unread (world was) (world next) o.may before;
             opens = λ opens. opens_again once unread (world was) (world next) o.may before opens;
-            keeps = λ opened start past least kept image at. kept_on once opened start past least (world was) image kept (before image at);
+            keeps = λ opened start past least counter kept image at. kept_on once opened start past least counter (world was) image kept (before image at);
           }

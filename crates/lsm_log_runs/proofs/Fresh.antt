@@ -17,7 +17,7 @@ use Rattle.lsm_log_model.specs.Records.{LogImage, LogStands}
 use Rattle.lsm_log_model.specs.Replays.{TablesAloneStand}
 use Rattle.lsm_logged.specs.Meanwhile.{ReadsVersion}
 use Rattle.lsm_logged.specs.Opening.{CanBeSettled, batch_read, image_read}
-use Rattle.lsm_log_runs.specs.Images.{ReadsLog, HoldsLogged, IsSmall, MayBeOpened}
+use Rattle.lsm_log_runs.specs.Images.{ReadsLog, HoldsLogged, IsSmall, LogMayBeOpened}
 
 absent : {A : Type 0} (o : Option A) → o ≡ None → IsSome o → ⊥
 absent o none some = let s = subst (λ p. IsSome p) none some in absurd (cc s)
@@ -78,7 +78,7 @@ module _ (tables : TablesAloneStand) (image : Image) (none : (n : List ℕ) → 
     reads = each;
   }
 
-pub new_opens : TablesAloneStand → (w : World) → Begins nothing_in w → IsReady w → ((from : ℕ) → CanBeSettled w from) → MayBeOpened w
+pub new_opens : TablesAloneStand → (w : World) → Begins nothing_in w → IsReady w → ((from : ℕ) → CanBeSettled w from) → LogMayBeOpened w
 new_opens tables w new ready settles = record {
   read = record {
     ready = ready;

@@ -17,7 +17,7 @@ use Rattle.lsm_state.specs.declared.compaction.Finished.TheVariants.{Installed a
 use Rattle.lsm_logged.specs.Writing.{batch_of}
 use Rattle.lsm_log_runs.specs.declared.steps.LogStep.{LogStep}
 use Rattle.lsm_log_runs.specs.declared.steps.LogStep.TheVariants.{Write, RotateMemtable, AtSlot, Flush, FlushActiveMemtable, Compact, MajorCompact, DropRange, Clear}
-use Rattle.lsm_log_runs.specs.Adds.{AddsBatch, AddsFlush, AddsRotation, AddsFlushActive, AddsInstalled, AddsCompaction, AddsClear, AddsBegun, AddsMerged, AddsRegistry, AddsRegister, AddsMerge, AddsJob, Adds}
+use Rattle.lsm_log_runs.specs.Adds.{AddsBatch, AddsFlush, AddsRotation, AddsFlushActive, AddsInstalled, AddsCompaction, AddsClear, AddsBegun, AddsMerged, AddsRegistry, AddsRegister, AddsMerge, AddsJob, LogAdds}
 use Rattle.lsm_log_runs.specs.Pasts.{LogPast, with_slot}
 
 -- the journal grows after, and of these slots it stays which flush was begun there last
@@ -138,7 +138,7 @@ module _ (slot : ℕ) (old new : LogPast) where
   job_grows May c FinishCompaction reply h = merge_grows Apart old new c reply h
   job_grows May c step reply h = same Apart old new h
 
-pub step_grows : (May : List Range → Type 0) (c : ℕ) (x : LogStep) (reply : Reply) (old new : LogPast) → Adds May c x reply old new → Grows (Other x) old new
+pub step_grows : (May : List Range → Type 0) (c : ℕ) (x : LogStep) (reply : Reply) (old new : LogPast) → LogAdds May c x reply old new → Grows (Other x) old new
 step_grows May c (Write ops) reply old new h = batch_grows _ old new c ops reply h
 step_grows May c (Flush w) reply old new h = flush_grows _ old new c w reply h
 step_grows May c Clear reply old new h = clear_grows _ old new c reply h

@@ -34,12 +34,11 @@ use Rattle.lsm_log_runs.specs.declared.steps.LogStep.TheVariants.{AtSlot}
 use Rattle.lsm_log_runs.specs.Dropping.{DropsBy}
 use Rattle.lsm_log_runs.specs.Doing.{ActsNothing, ActsRegister, ActsMerge, ActsJob}
 use Rattle.lsm_log_runs.specs.Pasts.{LogPast, with_flushed, with_doubt, with_begun, with_merged, with_install, with_unknown}
-use Rattle.lsm_log_runs.specs.Standing.{StandsLogged}
+use Rattle.lsm_log_runs.specs.Standing.{StandsLogged, WaitsAt}
 use Rattle.lsm_log_runs.proofs.CommitLeads.{compact_leads}
 use Rattle.lsm_log_runs.proofs.Leading.{Reading, Stores, StepFiles, same_led}
 use Rattle.lsm_log_runs.proofs.Orders.{order_merged}
 use Rattle.lsm_log_runs.proofs.StepLeads.{LeadsOn, answered, fresh, holds, none_done, quietly, flushed, unknown}
-use Rattle.lsm_log_runs.proofs.Waiting.{WaitsAt}
 
 module _ {S : Type 0} (world : S → World) (reading : Reading) (between : Stores world) (image : LogImage) (past : LogPast) (old new : SeenLogged S) (s : StandsLogged world image past old) (stored : StepFiles world old new) (rest : AtRest (world new.store)) where
   abbrev opened : List Entry

@@ -1,6 +1,7 @@
 pub mod Beside
 pub mod Advancing
 pub mod Numbers
+pub mod Under
 pub mod Going
 pub mod Reading
 pub mod Images
@@ -21,6 +22,8 @@ pub mod JobLeads
 pub mod Causing
 pub mod Counting
 pub mod Allowing
+pub mod Reasons
+pub mod Seeing
 pub mod Runs
 pub mod Opening
 pub mod Crashed
@@ -28,3 +31,4 @@ pub mod Taken
 pub mod EndedOpening
 pub mod Lives
 pub mod Fresh
+pub mod Once

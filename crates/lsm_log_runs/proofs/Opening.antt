@@ -1,6 +1,6 @@
 -- What is opened on a store that an opening takes stands, and the steps on it are a life.
-use Rattle.std.proofs.Common.{◌≡◌, ⊎_elim, inl, inr, ℕ, ◌<◌, ◌≤◌, ◌^◌, max, List, [], ◌∷◌, map, reverse, Option, Some, None, IsSome, refl, sym, ap, ◌∙◌, subst, arith}
-use Rattle.std.proofs.lemmas.List.Elements.{All-contains, All-from_recursion}
+use Rattle.std.proofs.Common.{◌≡◌, ⊎_elim, inl, inr, ℕ, ◌<◌, ◌≤◌, ◌^◌, max, List, [], ◌∷◌, map, reverse, Contains, Option, Some, None, IsSome, refl, sym, ap, ◌∙◌, subst, arith}
+use Rattle.std.proofs.lemmas.List.Elements.{All-contains, All-from_recursion, Contains-append_right}
 use Rattle.std.specs.List.{AllByRecursion}
 use Rattle.lsm_below.specs.Each.{each_left}
 use Rattle.lsm_below.specs.Entries.{Entry, above}
@@ -8,7 +8,7 @@ use Rattle.lsm_below.specs.Sums.{capped}
 use Rattle.lsm_manifest.specs.Names.{current_name}
 use Rattle.lsm_manifest.specs.Versions.{first_version}
 use Rattle.lsm_store.specs.World.{World, IsImage}
-use Rattle.lsm_model.specs.Journal.{next_number}
+use Rattle.lsm_model.specs.Journal.{Map, next_number}
 use Rattle.lsm_model.specs.Views.{held}
 use Rattle.lsm_model.proofs.Above.{above_each}
 use Rattle.lsm_logged.specs.Config.{Config}
@@ -16,7 +16,7 @@ use Rattle.lsm_logged.specs.Levels.{SeenVersion, placed_of}
 use Rattle.lsm_log.specs.declared.record.Record.{Record}
 use Rattle.lsm_log_model.specs.Logs.{lost_of}
 use Rattle.lsm_log_model.specs.Records.{Batch, LogImage, LogStands, logged, counted, entries_in, opened_by}
-use Rattle.lsm_log_model.proofs.Batches.{each_entries, each_reverse}
+use Rattle.lsm_log_model.proofs.Batches.{each_entries, each_reverse, since_all}
 use Rattle.lsm_versions.specs.TableLaws.{above-append}
 use Rattle.lsm_run_model.specs.Moments.{last_of}
 use Rattle.lsm_run_model.specs.Lives.{LeavesReady}
@@ -32,14 +32,17 @@ use Rattle.lsm_logged.specs.Meanwhile.{log_is_read, LeavesAsBefore}
 use Rattle.lsm_logged.specs.Opening.{OpensLogged, IsJustAbove, batch_read, image_read, version_of}
 use Rattle.lsm_log_runs.specs.declared.steps.LogStep.{LogStep}
 use Rattle.lsm_log_runs.specs.Dropping.{DropsBy, MayDropBy}
-use Rattle.lsm_log_runs.specs.Images.{ReadsLog, IsSmall, CanBeRead, MayBeOpened}
-use Rattle.lsm_log_runs.specs.Living.{IsNumberedBelow, LivesLogged}
-use Rattle.lsm_log_runs.specs.Moments.{EachKeeps}
+use Rattle.lsm_log_runs.specs.Images.{ReadsLog, IsNumberedBelow, IsSmall, CanBeRead, LogMayBeOpened}
+use Rattle.lsm_log_runs.specs.Living.{EachKeeps, LivesLogged}
+use Rattle.lsm_log_runs.specs.LoggedRuns.{called, EachHolds, RunsWhole}
 use Rattle.lsm_log_runs.specs.Pasts.{LogPast, nothing}
-use Rattle.lsm_log_runs.specs.Leading.{EachLeads, RunsLogged}
-use Rattle.lsm_log_runs.specs.Standing.{StandsLogged}
+use Rattle.lsm_log_runs.specs.Slots.{LogStage, at_first}
+use Rattle.lsm_log_runs.specs.Stages.{CalledStage, StageKeeps}
+use Rattle.lsm_log_runs.specs.Standing.{StandsLogged, StandsWithJobs}
 use Rattle.lsm_log_runs.proofs.Allowing.{adds_more, drops_allowed}
 use Rattle.lsm_log_runs.proofs.Leading.{past_eq}
+use Rattle.lsm_log_runs.proofs.Under.{reopened_under}
+use Rattle.lsm_log_runs.proofs.Waiting.{first_waiting}
 
 one_apart : (x : SeenVersion) → AreApart (x ∷ [])
 one_apart x v w i j same = ⊎_elim (λ (e : x ≡ v). ⊎_elim (λ (f : x ≡ w). sym f ∙ e) (λ (no : ⊥). absurd no) j) (λ (no : ⊥). absurd no) i
@@ -76,11 +79,19 @@ module _ {S : Type 0} (tells : Type 0) (world : S → World) (store : S) (config
       numbered [] h = tt
       numbered (x ∷ records) h = (h.0, numbered records h.1)
 
+      -- each record that is read counts
+      from_on : (records : List Record) → ((k : ℕ) → Contains (map (λ (x : Record). x.number) records) k → (version_of t).log_from ≤ k) → AllByRecursion (λ b. (version_of t).log_from ≤ b.number) (map batch_read records)
+      from_on [] high = tt
+      from_on (x ∷ records) high = (high x.number (0, omega arith, refl), from_on records (λ k there. high k (Contains-append_right (x.number ∷ []) (map (λ (y : Record). y.number) records) k there)))
+
+      all_count : AllByRecursion (λ b. b.number < n) (map batch_read opens.records)
+      all_count = subst (AllByRecursion (λ (b : Batch). b.number < n)) (since_all (version_of t).log_from (map batch_read opens.records) (from_on opens.records (λ k there. (((opens.takes told).log.read_are k).0 there).1))) below.records
+
       record_low : IsJustAbove opens.replays.least (map (λ (x : Record). x.number) opens.records) → opens.replays.least ≤ n
       record_low (inl zero) = omega (arith, zero)
       record_low (inr k) =
           let names = map (λ (x : Record). x.number) opens.records in
-          let one = All-contains (λ j. j < n) names k.0 (All-from_recursion (λ j. j < n) names (numbered opens.records below.records)) k.1 in
+          let one = All-contains (λ j. j < n) names k.0 (All-from_recursion (λ j. j < n) names (numbered opens.records all_count)) k.1 in
           let is = k.2 in
           omega (arith, one, is)
 
@@ -106,8 +117,8 @@ module _ {S : Type 0} (tells : Type 0) (world : S → World) (store : S) (config
   abbrev IsNamed : Batch → Type 0
   IsNamed b = b.number < 2 ^ 63
 
-  pub opened_stands : IsImage (world store).may (world store).gives → CanBeRead (world store) → StandsLogged world (image_read (version_of t) opens.records) nothing t
-  opened_stands one may =
+  tree_stands : IsImage (world store).may (world store).gives → CanBeRead (world store) → StandsLogged world (image_read (version_of t) opens.records) nothing t
+  tree_stands one may =
       let gives = (world store).gives in
       let stands : LogStands (image_read (version_of t) opens.records) = (may.stands gives one).reads (version_of t) opens.records reads in
       let again = opens.reopens told stands (may.settles gives (version_of t) one reads.version) in
@@ -127,55 +138,87 @@ module _ {S : Type 0} (tells : Type 0) (world : S → World) (store : S) (config
         is = again.is;
         keeps = again.keeps;
         next = again.next;
+        under = reopened_under (image_read (version_of t) opens.records) again.first t.core.seqno r;
         stored = opens.stored told may.ready;
         apart = subst AreApart (sym (ap versions_left opens.replays.core)) (one_apart (version_of t));
         small = record { before = all_low (subst (AllByRecursion IsNamed) r.records (each_left IsNamed again.first.records (lost_of again.first.lost) again.keeps.small)); written = tt; doubtful = tt };
       }
 
+  pub opened_stands : IsImage (world store).may (world store).gives → CanBeRead (world store) → StandsWithJobs world (image_read (version_of t) opens.records) (called (at_first t) nothing)
+  opened_stands one may = record { tree = tree_stands one may; waits = first_waiting nothing }
+
 -- ---- a life
 
 module _ {S : Type 0} (world : S → World) where
-  last_store : (old : SeenLogged S) (trees : List (SeenLogged S)) → last_of old.store (map (λ t. t.store) trees) ≡ (last_of old trees).store
-  last_store old [] = refl
-  last_store old (t ∷ trees) = last_store t trees
+  -- of stores what is so of the stages on them
+  abbrev store_stage : CalledStage (LogStage S) → CalledStage S
+  store_stage s = record { at = s.at.tree.store; past = s.past; counter = s.counter }
 
-  -- of stores what is so of trees on them
-  kills_of : (old new : SeenLogged S) → LeavesReady MayBeOpened (λ (t : SeenLogged S). world t.store) old new → LeavesReady MayBeOpened world old.store new.store
-  kills_of old new kills cut ends = kills (record { store = cut; core = old.core; numbers = old.numbers; doubted = old.doubted }) (record { each = ends.each; gives = ends.gives })
+  stage_of : (opened : List Entry) (start : Map) (s : CalledStage (LogStage S)) → StageKeeps (λ st. world st.tree.store) opened start s → StageKeeps world opened start (store_stage s)
+  stage_of opened start s k = record { now = k.now; whole = k.whole; again = k.again; small = k.small }
 
-  each_keeps : (strategies : Strategies) (May : Drops) → AllowsDrops May strategies → (image : LogImage) (steps : List LogStep) (replies : List Reply) (past : LogPast) (old : SeenLogged S) (trees : List (SeenLogged S)) → EachLeads strategies world image steps replies past old trees
-      → EachKeeps May world (opened_by image) (logged image) steps replies past old.core.seqno (map (λ t. t.core.seqno) trees) old.store (map (λ t. t.store) trees)
-  each_keeps strategies May allows image [] [] past old [] each = tt
-  each_keeps strategies May allows image (x ∷ steps) (r ∷ replies) past old (t ∷ trees) each = λ tried.
+  kills_of : (old new : LogStage S) → LeavesReady LogMayBeOpened (λ (st : LogStage S). world st.tree.store) old new → LeavesReady LogMayBeOpened world old.tree.store new.tree.store
+  kills_of old new kills cut ends =
+      let t : SeenLogged S = record { store = cut; core = old.tree.core; numbers = old.tree.numbers; doubted = old.tree.doubted } in
+      kills (record { tree = t; jobs = old.jobs }) (record { each = ends.each; gives = ends.gives })
+
+  -- the stages that stores tell
+  abbrev stages_of : List (LogStage S) → List LogPast → List (CalledStage S)
+  stages_of [] pasts = []
+  stages_of (st ∷ stages) [] = store_stage (called st nothing) ∷ stages_of stages []
+  stages_of (st ∷ stages) (past ∷ pasts) = store_stage (called st past) ∷ stages_of stages pasts
+
+  last_store : (old : LogStage S) (counter : ℕ) (past : LogPast) (stages : List (LogStage S)) (pasts : List LogPast) → (last_of (record { at = old.tree.store; past = past; counter = counter }) (stages_of stages pasts)).at ≡ (last_of old stages).tree.store
+  last_store old counter past [] pasts = refl
+  last_store old counter past (st ∷ stages) [] = last_store st st.tree.core.seqno nothing stages []
+  last_store old counter past (st ∷ stages) (p ∷ pasts) = last_store st st.tree.core.seqno p stages pasts
+
+  each_keeps : (strategies : Strategies) (May : Drops) → AllowsDrops May strategies → (image : LogImage) (steps : List LogStep) (replies : List Reply) (old : CalledStage (LogStage S)) (stages : List (LogStage S)) (pasts : List LogPast) → EachHolds (StandsWithJobs world image) strategies world image steps replies old stages pasts
+      → EachKeeps May world (opened_by image) (logged image) steps replies (store_stage old) (stages_of stages pasts)
+  each_keeps strategies May allows image [] [] old [] [] each = tt
+  each_keeps strategies May allows image (x ∷ steps) (r ∷ replies) old (st ∷ stages) (past ∷ pasts) each = λ tried.
       let one = each tried in
-      let k = one.1 in
-      (one.0, record { adds = adds_more (DropsBy strategies old.core x) (MayDropBy May x) (drops_allowed strategies May allows old.core x) old.core.seqno x r past one.0 k.adds; draws = k.draws; answers = k.answers; inside = k.inside; now = k.now; small = k.small; again = k.again; kills = kills_of old t k.kills; whole = k.whole }, each_keeps strategies May allows image steps replies one.0 t trees one.4)
-  each_keeps strategies May allows image [] [] past old (t ∷ trees) each = absurd each
-  each_keeps strategies May allows image [] (r ∷ replies) past old trees each = absurd each
-  each_keeps strategies May allows image (x ∷ steps) [] past old trees each = absurd each
-  each_keeps strategies May allows image (x ∷ steps) (r ∷ replies) past old [] each = absurd each
+      let k = one.0.keeps in (
+        record {
+          adds = adds_more (DropsBy strategies old.at.tree.core x) (MayDropBy May x) (drops_allowed strategies May allows old.at.tree.core x) old.counter x r old.past past k.adds;
+          draws = k.draws;
+          answers = k.answers;
+          reason = k.reason;
+          cause = k.cause;
+          inside = k.inside;
+          kills = kills_of old.at st k.kills;
+          then = stage_of (opened_by image) (logged image) (called st past) k.then;
+        },
+        each_keeps strategies May allows image steps replies (called st past) stages pasts one.1,
+      )
+  each_keeps strategies May allows image [] [] old [] (past ∷ pasts) each = absurd each
+  each_keeps strategies May allows image [] [] old (st ∷ stages) pasts each = absurd each
+  each_keeps strategies May allows image [] (r ∷ replies) old stages pasts each = absurd each
+  each_keeps strategies May allows image (x ∷ steps) [] old stages pasts each = absurd each
+  each_keeps strategies May allows image (x ∷ steps) (r ∷ replies) old [] pasts each = absurd each
+  each_keeps strategies May allows image (x ∷ steps) (r ∷ replies) old (st ∷ stages) [] each = absurd each
 
   pub lived : (strategies : Strategies) (May : Drops) → AllowsDrops May strategies → (tells : Type 0) (told : tells) (store : S) (config : Config) (t : SeenLogged S) (opens : OpensLogged tells world store config t) (steps : List LogStep) (replies : List Reply) (new : SeenLogged S)
-      → LeavesAsBefore (world store) (world t.store) → t.core.seqno < 2 ^ 64 → StandsLogged world (image_read (version_of t) opens.records) nothing t → RunsLogged strategies world steps replies t new → LivesLogged May world config.seqno steps replies store new.store
-  lived strategies May allows tells told store config t opens steps replies new opening fits stands run =
+      → LeavesAsBefore (world store) (world t.store) → (world t.store).failures ≡ (world store).failures → t.core.seqno < 2 ^ 64 → StandsWithJobs world (image_read (version_of t) opens.records) (called (at_first t) nothing) → RunsWhole tells strategies world steps replies t new → LivesLogged May world config.seqno steps replies store new.store
+  lived strategies May allows tells told store config t opens steps replies new opening quiet fits stands run =
       let image = image_read (version_of t) opens.records in
-      let journal = ap (λ (p : LogPast). p.journal) stands.came.past_is in
-      let low : above (opened_by image) ≤ t.core.seqno = subst (λ j. next_number (opened_by image) j ≤ t.core.seqno) journal stands.next.above_journal in
+      let journal = ap (λ (p : LogPast). p.journal) stands.tree.came.past_is in
+      let low : above (opened_by image) ≤ t.core.seqno = subst (λ j. next_number (opened_by image) j ≤ t.core.seqno) journal stands.tree.next.above_journal in
+      let holds = run.run.holds told image nothing stands in
+      let stages = run.run.through.stages in
       record {
         version = version_of t;
         records = opens.records;
         read = reads tells world store config t opens told;
+        first = t.store;
         counter = t.core.seqno;
-        counters = map (λ u. u.core.seqno) run.trees;
         above_found = low;
         starts = λ n below. starts_low tells world store config t opens told n below;
-        small = stands.small.before;
         fits = fits;
         opening = opening;
-        first = t.store;
-        stores = map (λ u. u.store) run.trees;
-        ends = last_store t run.trees ∙ run.ends;
-        again = (run.now image nothing stands).1;
-        now = (run.now image nothing stands).0;
-        keeps = each_keeps strategies May allows image steps replies nothing t run.trees (run.leads image nothing stands);
+        quiet = quiet;
+        stages = stages_of stages holds.pasts;
+        ends = last_store (at_first t) t.core.seqno nothing stages holds.pasts ∙ ap (λ (st : LogStage S). st.tree.store) run.run.through.ends ∙ sym run.closes.rest.store;
+        begins = stage_of (opened_by image) (logged image) (called (at_first t) nothing) holds.first;
+        keeps = each_keeps strategies May allows image steps replies (called (at_first t) nothing) stages holds.pasts holds.each;
       }

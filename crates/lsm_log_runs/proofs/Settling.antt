@@ -18,7 +18,7 @@ use Rattle.lsm_logged.specs.Opening.{CanBeSettled}
 use Rattle.lsm_logged.proofs.LogNames.{refused_begins}
 use Rattle.lsm_logged.proofs.Meanwhile.{reads_outside}
 use Rattle.lsm_runs.proofs.Readiness.{less_ready}
-use Rattle.lsm_log_runs.specs.Images.{HoldsLogged, IsSmall, CanBeRead, MayBeOpened}
+use Rattle.lsm_log_runs.specs.Images.{HoldsLogged, IsSmall, CanBeRead, LogMayBeOpened}
 
 -- ---- another content of a name in the folder of the log
 
@@ -68,10 +68,10 @@ module _ (once : FoundOnce) (unread : UnreadNamesDontMatter) (w : World) (stands
   pub stands_read : IsReady w → CanBeRead w
   stands_read ready = record { ready = ready; stands = stands; settles = settles }
 
-  pub stands_opens : ((image : Image) → IsImage w.may image → HoldsLogged IsSmall image) → IsReady w → MayBeOpened w
+  pub stands_opens : ((image : Image) → IsImage w.may image → HoldsLogged IsSmall image) → IsReady w → LogMayBeOpened w
   stands_opens small ready = record { read = stands_read ready; small = small }
 
 -- and so can one of which a crash leaves less
-pub less_opens : FoundOnce → UnreadNamesDontMatter → (old new : World) → ((image : Image) → IsImage new.may image → IsImage old.may image) → MayBeOpened old → MayBeOpened new
+pub less_opens : FoundOnce → UnreadNamesDontMatter → (old new : World) → ((image : Image) → IsImage new.may image → IsImage old.may image) → LogMayBeOpened old → LogMayBeOpened new
 less_opens once unread old new less may =
     stands_opens once unread new (λ image at. may.read.stands image (less image at)) (λ image at. may.small image (less image at)) (less_ready old new less may.read.ready)

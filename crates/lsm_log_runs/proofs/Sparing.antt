@@ -17,7 +17,7 @@ use Rattle.lsm_log_model.proofs.Growth.{acts_order}
 use Rattle.lsm_log_model.proofs.Writes.{deeds_run, run_journal}
 use Rattle.lsm_state.specs.Core.{Core, state_of}
 use Rattle.lsm_runs.proofs.FlushReplays.{other_found}
-use Rattle.lsm_log_runs.specs.Leading.{SparesAnswers}
+use Rattle.lsm_log_runs.specs.LoggedRuns.{SparesAnswers}
 use Rattle.lsm_log_runs.specs.Pasts.{LogPast}
 
 -- what was told from one state to another, and that what it spares stays

@@ -31,7 +31,7 @@ use Rattle.lsm_logged.specs.Writing.{WritesLogged, WritesAct, Leads, batch_of}
 use Rattle.lsm_logged.proofs.Acted.{distinct_keys}
 use Rattle.lsm_log_runs.specs.Adds.{AddsBatch, AddsFlush, AddsClear}
 use Rattle.lsm_log_runs.specs.Doing.{ActsBatch, ActsFlush, ActsClear}
-use Rattle.lsm_log_runs.specs.Leading.{SparesAnswers}
+use Rattle.lsm_log_runs.specs.LoggedRuns.{SparesAnswers}
 use Rattle.lsm_log_runs.specs.Pasts.{LogPast, past_of, with_batch, with_lost, with_flushed, with_flush, with_doubt, with_clear, with_lost_clear}
 use Rattle.lsm_log_runs.specs.Runs.{TakesBatch, TakesClear}
 use Rattle.lsm_log_runs.specs.Standing.{StandsLogged}

@@ -12,7 +12,7 @@ use Rattle.lsm_manifest.specs.Opening.{Opens, OpensFiles, OpensNew}
 use Rattle.lsm_manifest.specs.Told.{TellsOpen, told_weaker}
 use Rattle.lsm_log_model.specs.Records.{counted, entries_in, opened_by}
 use Rattle.lsm_logged.specs.Opening.{RefusesLogged, Files, Memory, Faulty, BadLog, image_read}
-use Rattle.lsm_log_runs.specs.Images.{HoldsLogged, IsSmall, CanBeRead, MayBeOpened, IsWantOf}
+use Rattle.lsm_log_runs.specs.Images.{HoldsLogged, IsSmall, CanBeRead, LogMayBeOpened, IsWantOf}
 use Rattle.lsm_log_runs.proofs.Numbers.{small_levels}
 
 -- what is found below 2^63 is refused for no number
@@ -42,5 +42,5 @@ module _ {F : Type 0} (world : F → World) (finds : OpeningFinds F world) (once
   found old new e (Faulty is failed) may = subst (RefusesFound (world old).gives) (sym is) tt
   found old new e (BadLog is bad) may = absurd ((may.stands (world old).gives (one old)).good bad.version bad.read bad.bad)
 
-  pub taken : (old new : F) (e : Error) → RefusesLogged (world old) (world new) e → (CanBeRead (world old) → RefusesFound (world old).gives e) × (MayBeOpened (world old) → IsWantOf e)
+  pub taken : (old new : F) (e : Error) → RefusesLogged (world old) (world new) e → (CanBeRead (world old) → RefusesFound (world old).gives e) × (LogMayBeOpened (world old) → IsWantOf e)
   taken old new e refuses = (found old new e refuses, λ may. wanted once (world old).gives e (may.small (world old).gives (one old)) (found old new e refuses may.read))

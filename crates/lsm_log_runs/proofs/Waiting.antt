@@ -32,26 +32,16 @@ use Rattle.lsm_runs.specs.Compacting.{Strategies, reply_of, job_of, TakesRunComp
 use Rattle.lsm_runs.specs.Flushing.{TakesRun}
 use Rattle.lsm_runs.specs.OpenFlushes.{BegunFlush}
 use Rattle.lsm_runs.specs.Slots.{flush_in, merge_in}
-use Rattle.lsm_runs.proofs.Merged.{merged_at}
 use Rattle.lsm_logged.specs.Asking.{Asks}
 use Rattle.lsm_logged.specs.Flushing.{BeginsLogged, WritesJobLogged}
 use Rattle.lsm_logged.specs.Keeping.{SeenLogged}
 use Rattle.lsm_log_runs.specs.Adds.{AddsBegun, AddsMerged, AddsCompaction, AddsRegister, AddsMerge, AddsJob}
 use Rattle.lsm_log_runs.specs.JobSteps.{IsIdle, TakesBegin, TakesTables, TakesRegister, TakesAbandon, TakesBeginCompaction, TakesFinish, TakesAbandonCompaction, TakesJob}
 use Rattle.lsm_log_runs.specs.Pasts.{LogPast, with_slot, with_begun}
+use Rattle.lsm_log_runs.specs.Standing.{mark_in, WaitsAt, AreWaiting}
 use Rattle.lsm_log_runs.proofs.Growing.{Grows}
 
 -- ---- what waits
-
--- the flush whose job waits in a place is of these memtables and was merged at this watermark, and the watermark of the merge whose job waits
--- there is marked
-pub record WaitsAt (flush : BegunFlush) (journal : List Event) (place : Option Job) : Type 0 where
-  pub begun : (job : SeenJob) → flush_in place ≡ Some job → job.ids ≡ flush.ids
-  pub merged : (w : ℕ) → merged_at place ≡ Some w → w ≡ flush.watermark
-  pub marked : (job : SeenCompaction) → merge_in place ≡ Some job → IsMarkedIn job.settings.watermark journal
-
-abbrev pub AreWaiting : LogPast → (ℕ → Option Job) → Type 0
-AreWaiting past jobs = (n : ℕ) → WaitsAt (past.begun n) past.journal (jobs n)
 
 no_flush : (o : Option SeenJob) (a : SeenJob) → o ≡ None → o ≡ Some a → ⊥
 no_flush o a none some = cc
@@ -75,32 +65,32 @@ one_merge o a b first second = cc
 none_waits : (flush : BegunFlush) (journal : List Event) (place : Option Job) → place ≡ None → WaitsAt flush journal place
 none_waits flush journal place none = record {
   begun = λ job at. absurd (no_flush (flush_in place) job (ap flush_in none) at);
-  merged = λ w at. absurd (no_mark (merged_at place) w (ap merged_at none) at);
+  merged = λ w at. absurd (no_mark (mark_in place) w (ap mark_in none) at);
   marked = λ job at. absurd (no_merge (merge_in place) job (ap merge_in none) at);
 }
 
 begun_waits : (flush : BegunFlush) (journal : List Event) (place : Option Job) (job : SeenJob) → place ≡ Some (BegunJob job) → job.ids ≡ flush.ids → WaitsAt flush journal place
 begun_waits flush journal place job there is = record {
   begun = λ other at. ap (λ (j : SeenJob). j.ids) (one_flush (flush_in place) other job at (ap flush_in there)) ∙ is;
-  merged = λ w at. absurd (no_mark (merged_at place) w (ap merged_at there) at);
+  merged = λ w at. absurd (no_mark (mark_in place) w (ap mark_in there) at);
   marked = λ other at. absurd (no_merge (merge_in place) other (ap merge_in there) at);
 }
 
-flush_waits : (flush : BegunFlush) (journal : List Event) (place : Option Job) (job : SeenJob) (w : ℕ) → flush_in place ≡ Some job → merged_at place ≡ Some w → merge_in place ≡ None → job.ids ≡ flush.ids → w ≡ flush.watermark → WaitsAt flush journal place
+flush_waits : (flush : BegunFlush) (journal : List Event) (place : Option Job) (job : SeenJob) (w : ℕ) → flush_in place ≡ Some job → mark_in place ≡ Some w → merge_in place ≡ None → job.ids ≡ flush.ids → w ≡ flush.watermark → WaitsAt flush journal place
 flush_waits flush journal place job w there mark none is at_mark = record {
   begun = λ other at. ap (λ (j : SeenJob). j.ids) (one_flush (flush_in place) other job at there) ∙ is;
-  merged = λ v at. one_mark (merged_at place) v w at mark ∙ at_mark;
+  merged = λ v at. one_mark (mark_in place) v w at mark ∙ at_mark;
   marked = λ other at. absurd (no_merge (merge_in place) other none at);
 }
 
-merge_waits : (flush : BegunFlush) (journal : List Event) (place : Option Job) (job : SeenCompaction) → flush_in place ≡ None → merged_at place ≡ None → merge_in place ≡ Some job → IsMarkedIn job.settings.watermark journal → WaitsAt flush journal place
+merge_waits : (flush : BegunFlush) (journal : List Event) (place : Option Job) (job : SeenCompaction) → flush_in place ≡ None → mark_in place ≡ None → merge_in place ≡ Some job → IsMarkedIn job.settings.watermark journal → WaitsAt flush journal place
 merge_waits flush journal place job none unmarked there marked = record {
   begun = λ other at. absurd (no_flush (flush_in place) other none at);
-  merged = λ w at. absurd (no_mark (merged_at place) w unmarked at);
+  merged = λ w at. absurd (no_mark (mark_in place) w unmarked at);
   marked = λ other at. subst (λ (j : SeenCompaction). IsMarkedIn j.settings.watermark journal) (one_merge (merge_in place) job other there at) marked;
 }
 
-same_waits : (flush : BegunFlush) (journal : List Event) (was is : Option Job) → flush_in is ≡ flush_in was → merged_at is ≡ merged_at was → merge_in is ≡ merge_in was → WaitsAt flush journal was → WaitsAt flush journal is
+same_waits : (flush : BegunFlush) (journal : List Event) (was is : Option Job) → flush_in is ≡ flush_in was → mark_in is ≡ mark_in was → merge_in is ≡ merge_in was → WaitsAt flush journal was → WaitsAt flush journal is
 same_waits flush journal was is job mark merge w = record {
   begun = λ other at. w.begun other (sym job ∙ at);
   merged = λ v at. w.merged v (sym mark ∙ at);
@@ -114,7 +104,7 @@ first_waiting past n = none_waits (past.begun n) past.journal None refl
 pub grown_waits : (laws : NotedCompactionsKeepReads) (Other : ℕ → Type 0) (past next : LogPast) → Grows Other past next → (n : ℕ) → Other n → (was is : Option Job) → is ≡ was → WaitsAt (past.begun n) past.journal was → WaitsAt (next.begun n) next.journal is
 grown_waits laws Other past next g n other was is same w = record {
   begun = λ job at. w.begun job (sym (ap flush_in same) ∙ at) ∙ sym (ap (λ (f : BegunFlush). f.ids) (g.begun n other));
-  merged = λ v at. w.merged v (sym (ap merged_at same) ∙ at) ∙ sym (ap (λ (f : BegunFlush). f.watermark) (g.begun n other));
+  merged = λ v at. w.merged v (sym (ap mark_in same) ∙ at) ∙ sym (ap (λ (f : BegunFlush). f.watermark) (g.begun n other));
   marked = λ job at. subst (IsMarkedIn job.settings.watermark) (sym g.journal) (laws.lasts job.settings.watermark past.journal g.events (w.marked job (sym (ap merge_in same) ∙ at)));
 }
 
@@ -167,11 +157,11 @@ module _ {S : Type 0} (laws : NotedCompactionsKeepReads) (May : List Range → T
   Goal = WaitsAt (next.begun slot) next.journal is
 
   -- nothing is added, and the slot has a job of the same flush or merge
-  stays : next ≡ past → flush_in is ≡ flush_in was → merged_at is ≡ merged_at was → merge_in is ≡ merge_in was → Goal
+  stays : next ≡ past → flush_in is ≡ flush_in was → mark_in is ≡ mark_in was → merge_in is ≡ merge_in was → Goal
   stays same flush mark merge = subst (λ (p : LogPast). WaitsAt (p.begun slot) p.journal is) (sym same) (same_waits (past.begun slot) past.journal was is flush mark merge here)
 
   idle : next ≡ past → IsIdle was is old new → Goal
-  idle same t = stays same (ap flush_in t.0) (ap merged_at t.0) (ap merge_in t.0)
+  idle same t = stays same (ap flush_in t.0) (ap mark_in t.0) (ap merge_in t.0)
 
   freed : is ≡ None → Goal
   freed free = none_waits (next.begun slot) next.journal is free
@@ -192,7 +182,7 @@ module _ {S : Type 0} (laws : NotedCompactionsKeepReads) (May : List Range → T
       go true None at some begins adds = absurd (cc some)
       go false (Some job) at some begins adds = absurd (cc some)
       go false None at some begins adds = freed at
-  begin_waits sealed (Refused x) t adds = stays adds (ap flush_in t.0) (ap merged_at t.0) (ap merge_in t.0)
+  begin_waits sealed (Refused x) t adds = stays adds (ap flush_in t.0) (ap mark_in t.0) (ap merge_in t.0)
   begin_waits sealed SlotInUse t adds = idle adds t.0
   begin_waits sealed reply t adds = absurd t
 
@@ -202,9 +192,9 @@ module _ {S : Type 0} (laws : NotedCompactionsKeepReads) (May : List Range → T
       let flush : BegunFlush = record { ids = (past.begun slot).ids; watermark = w } in
       subst (λ (p : LogPast). WaitsAt (p.begun slot) p.journal is) (sym adds)
       (subst (λ f. WaitsAt f past.journal is) (sym (here_is flush))
-      (flush_waits flush past.journal is job.job job.watermark (ap flush_in t.2.2) (ap merged_at t.2.2) (ap merge_in t.2.2) (here.begun job.job (ap flush_in t.2.1)) t.2.3))
-  run_waits w (Refused x) a b t same = stays same (ap flush_in t.0.1) (ap merged_at t.0.1) (ap merge_in t.0.1)
-  run_waits w NoJob a b t same = stays same (ap flush_in t.0.1) (ap merged_at t.0.1) (ap merge_in t.0.1)
+      (flush_waits flush past.journal is job.job job.watermark (ap flush_in t.2.2) (ap mark_in t.2.2) (ap merge_in t.2.2) (here.begun job.job (ap flush_in t.2.1)) t.2.3))
+  run_waits w (Refused x) a b t same = stays same (ap flush_in t.0.1) (ap mark_in t.0.1) (ap merge_in t.0.1)
+  run_waits w NoJob a b t same = stays same (ap flush_in t.0.1) (ap mark_in t.0.1) (ap merge_in t.0.1)
   run_waits w reply a b t same = absurd t
 
   tables_waits : (reply : Reply) → TakesTables reply was is old new → next ≡ past → Goal
@@ -213,12 +203,12 @@ module _ {S : Type 0} (laws : NotedCompactionsKeepReads) (May : List Range → T
       let made = t.1 in
       subst (λ (p : LogPast). WaitsAt (p.begun slot) p.journal is) (sym same)
       (let of = of_job job made t.4 old.doubted refl in
-      flush_waits (past.begun slot) past.journal is made.job made.watermark (ap flush_in t.3) (ap merged_at t.3) (ap merge_in t.3) (ap (λ (j : SeenJob). j.ids) of.0 ∙ here.begun job.job (ap flush_in t.2)) (of.1 ∙ here.merged job.watermark (ap merged_at t.2)))
+      flush_waits (past.begun slot) past.journal is made.job made.watermark (ap flush_in t.3) (ap mark_in t.3) (ap merge_in t.3) (ap (λ (j : SeenJob). j.ids) of.0 ∙ here.begun job.job (ap flush_in t.2)) (of.1 ∙ here.merged job.watermark (ap mark_in t.2)))
     where
       of_job : (job : SeenMerged) (made : SeenWritten) → WritesJobLogged job (Ok made) old new → (d : Bool) → old.doubted ≡ d → (made.job ≡ job.job) × (made.watermark ≡ job.watermark)
       of_job job made writes true at = let z = (writes.doubted at).0 in absurd (cc z)
       of_job job made writes false at = let of = (writes.writes at).of_job in (of.0, of.1)
-  tables_waits (Refused x) t same = stays same (ap flush_in t.2) (ap merged_at t.2) (ap merge_in t.2)
+  tables_waits (Refused x) t same = stays same (ap flush_in t.2) (ap mark_in t.2) (ap merge_in t.2)
   tables_waits NoJob t same = idle same t.0
   tables_waits reply t same = absurd t
 
@@ -240,7 +230,7 @@ module _ {S : Type 0} (laws : NotedCompactionsKeepReads) (May : List Range → T
     where
       go : (begun : Result HowBegun Error) → is ≡ job_of begun → Asks begun old new (BeginsCompaction (strategies.may_choose at) (strategies.may_refuse at) o begun old.core new.core) → AddsCompaction May c o.mvcc_gc_watermark (reply_of begun) past next → Goal
       go (Ok (MergeJob job)) there asks adds =
-          subst (λ (p : LogPast). WaitsAt (p.begun slot) p.journal is) (sym adds) (merge_waits (past.begun slot) (past.journal ++ Mark o.mvcc_gc_watermark ∷ []) is job (ap flush_in there) (ap merged_at there) (ap merge_in there)
+          subst (λ (p : LogPast). WaitsAt (p.begun slot) p.journal is) (sym adds) (merge_waits (past.begun slot) (past.journal ++ Mark o.mvcc_gc_watermark ∷ []) is job (ap flush_in there) (ap mark_in there) (ap merge_in there)
           (subst (λ n. IsMarkedIn n (past.journal ++ Mark o.mvcc_gc_watermark ∷ [])) (sym (merge_mark (strategies.may_choose at) (strategies.may_refuse at) o job old new asks)) (laws.marked o.mvcc_gc_watermark past.journal [])))
       go (Ok DidNothing) there asks adds = freed there
       go (Ok (Declined why)) there asks adds = freed there
@@ -248,9 +238,9 @@ module _ {S : Type 0} (laws : NotedCompactionsKeepReads) (May : List Range → T
       go (Err x) there asks adds = freed there
 
   run_merge_waits : (reply : Reply) (a b : Core) → TakesRunCompaction reply [] was is a b → next ≡ past → Goal
-  run_merge_waits Done a b t same = stays same (ap flush_in t.2.2 ∙ sym (ap flush_in t.2.1)) (ap merged_at t.2.2 ∙ sym (ap merged_at t.2.1)) (ap merge_in t.2.2 ∙ sym (ap merge_in t.2.1))
-  run_merge_waits (Refused x) a b t same = stays same (ap flush_in t.0.1) (ap merged_at t.0.1) (ap merge_in t.0.1)
-  run_merge_waits NoJob a b t same = stays same (ap flush_in t.0.1) (ap merged_at t.0.1) (ap merge_in t.0.1)
+  run_merge_waits Done a b t same = stays same (ap flush_in t.2.2 ∙ sym (ap flush_in t.2.1)) (ap mark_in t.2.2 ∙ sym (ap mark_in t.2.1)) (ap merge_in t.2.2 ∙ sym (ap merge_in t.2.1))
+  run_merge_waits (Refused x) a b t same = stays same (ap flush_in t.0.1) (ap mark_in t.0.1) (ap merge_in t.0.1)
+  run_merge_waits NoJob a b t same = stays same (ap flush_in t.0.1) (ap mark_in t.0.1) (ap merge_in t.0.1)
   run_merge_waits reply a b t same = absurd t
 
   finish_waits : (reply : Reply) → TakesFinish reply was is old new → AddsMerge c reply past next → Goal

@@ -107,14 +107,14 @@ AddsJob May c slot step reply old new = new ≡ old
 -- ---- by steps
 
 -- where the step may drop such ranges, and the counter stands at this number before it: a step that isn't named adds nothing
-abbrev pub Adds : (List Range → Type 0) → ℕ → LogStep → Reply → LogPast → LogPast → Type 0
-Adds May c (Write ops) reply old new = AddsBatch c ops reply old new
-Adds May c (Flush w) reply old new = AddsFlush c w reply old new
-Adds May c Clear reply old new = AddsClear c reply old new
-Adds May c RotateMemtable reply old new = AddsRotation reply old new
-Adds May c (FlushActiveMemtable w) reply old new = AddsFlushActive c w reply old new
-Adds May c (Compact at w) reply old new = AddsCompaction May c w reply old new
-Adds May c (MajorCompact target w) reply old new = AddsCompaction May c w reply old new
-Adds May c (DropRange low high) reply old new = AddsCompaction May c 0 reply old new
-Adds May c (AtSlot slot step) reply old new = AddsJob May c slot step reply old new
-Adds May c step reply old new = new ≡ old
+abbrev pub LogAdds : (List Range → Type 0) → ℕ → LogStep → Reply → LogPast → LogPast → Type 0
+LogAdds May c (Write ops) reply old new = AddsBatch c ops reply old new
+LogAdds May c (Flush w) reply old new = AddsFlush c w reply old new
+LogAdds May c Clear reply old new = AddsClear c reply old new
+LogAdds May c RotateMemtable reply old new = AddsRotation reply old new
+LogAdds May c (FlushActiveMemtable w) reply old new = AddsFlushActive c w reply old new
+LogAdds May c (Compact at w) reply old new = AddsCompaction May c w reply old new
+LogAdds May c (MajorCompact target w) reply old new = AddsCompaction May c w reply old new
+LogAdds May c (DropRange low high) reply old new = AddsCompaction May c 0 reply old new
+LogAdds May c (AtSlot slot step) reply old new = AddsJob May c slot step reply old new
+LogAdds May c step reply old new = new ≡ old

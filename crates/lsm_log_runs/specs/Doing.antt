@@ -1,14 +1,12 @@
 -- What each step of a run does, as its call says it.
-use Rattle.std.specs.Prelude.{◌≡◌, ◌⊎◌, ℕ, List, [], ◌∷◌, Option, Some, None, Result, Ok, Err}
+use Rattle.std.specs.Prelude.{◌≡◌, ◌⊎◌, ℕ, List, Option, Some, None, Result, Ok, Err}
 use Rattle.lsm_below.specs.Keys.{Bytes}
 use Rattle.lsm_below.specs.declared.error.Error.{Error}
 use Rattle.lsm_store.specs.World.{World}
 use Rattle.lsm_model.specs.declared.op.Op.{Op}
 use Rattle.lsm_model.specs.Steps.{Action}
-use Rattle.lsm_commit.specs.Foreign.{AtRest}
 use Rattle.lsm_logged.specs.Jobs.{SeenWritten}
 use Rattle.lsm_logged.specs.Merges.{SeenCompacted}
-use Rattle.lsm_run_model.specs.Moments.{last_of}
 use Rattle.lsm_runs.specs.declared.slots.Job.{Job}
 use Rattle.lsm_runs.specs.declared.slots.Job.TheVariants.{Written, Compacted as CompactedJob}
 use Rattle.lsm_runs.specs.declared.steps.JobStep.{JobStep}
@@ -120,22 +118,8 @@ Acts strategies step reply w w' old new = ActsAlone strategies step reply w w' o
 
 -- ---- all of it
 
--- what a step answers and does; and where the store tells its content: its acts, that the tree's files stay stored, and what a crash
--- leaves of them then
+-- what a step answers and does; and where the store tells its content: its acts, and that the tree's files stay stored
 pub record StepDoes {S : Type 0} (strategies : Strategies) (tells : Type 0) (world : S → World) (step : LogStep) (reply : Reply) (old new : LogStage S) : Type 0 where
   pub takes : Takes strategies step reply old new
   pub acts : tells → Acts strategies step reply (world old.tree.store) (world new.tree.store) old new
   pub stored : tells → StaysStored (world old.tree.store) (world new.tree.store) old.tree.core new.tree.core
-  pub rest : tells → AtRest (world new.tree.store)
-
--- each of the steps, one after the other, through these stages
-abbrev pub AllDoes : {S : Type 0} → Strategies → Type 0 → (S → World) → List LogStep → List Reply → LogStage S → List (LogStage S) → Type 0
-AllDoes strategies tells world [] [] old [] = Unit {0}
-AllDoes strategies tells world (x ∷ steps) (r ∷ replies) old (mid ∷ stages) = StepDoes strategies tells world x r old mid × AllDoes strategies tells world steps replies mid stages
-AllDoes strategies tells world steps replies old stages = ⊥
-
--- from one stage to another
-pub record RanTo {S : Type 0} (strategies : Strategies) (tells : Type 0) (world : S → World) (steps : List LogStep) (replies : List Reply) (old new : LogStage S) : Type 0 where
-  pub stages : List (LogStage S)
-  pub does : AllDoes strategies tells world steps replies old stages
-  pub ends : last_of old stages ≡ new

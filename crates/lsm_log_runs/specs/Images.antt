@@ -1,5 +1,6 @@
 -- What an image is to an opening: a version, and the records beside it.
-use Rattle.std.specs.Prelude.{◌≡◌, ◌⊎◌, ℕ, ◌≤◌, ◌^◌, true, List, []}
+use Rattle.std.specs.Prelude.{◌≡◌, ◌⊎◌, ℕ, ◌<◌, ◌≤◌, ◌^◌, true, List, []}
+use Rattle.std.specs.List.{AllByRecursion}
 use Rattle.std.specs.FinMap.{get}
 use Rattle.lsm_below.specs.Entries.{Entry, above}
 use Rattle.lsm_below.specs.Keys.{Bytes}
@@ -14,7 +15,7 @@ use Rattle.lsm_manifest.specs.Ready.{IsReady}
 use Rattle.lsm_log.specs.declared.record.Record.{Record}
 use Rattle.lsm_log.specs.Logs.{IsBadLog}
 use Rattle.lsm_log_model.specs.Numbered.{AreBelow}
-use Rattle.lsm_log_model.specs.Records.{LogImage, LogStands, logged, opened_by}
+use Rattle.lsm_log_model.specs.Records.{LogImage, LogStands, counted, logged, opened_by}
 use Rattle.lsm_log_model.specs.Recovery.{LogRecovers}
 use Rattle.lsm_logged.specs.Meanwhile.{ReadsVersion, AreReadFrom}
 use Rattle.lsm_logged.specs.Opening.{CanBeSettled, image_read}
@@ -24,6 +25,10 @@ use Rattle.lsm_log_runs.specs.Pasts.{LogPast}
 pub record ReadsLog (image : Image) (v : SeenVersion) (records : List Record) : Type 0 where
   pub version : ReadsVersion image v
   pub log : AreReadFrom image v.log_from records
+
+-- an opening reads one version in an image, and beside it one list of records
+abbrev pub LogsOpenOnce : Type 0
+LogsOpenOnce = (image : Image) (v w : SeenVersion) (records others : List Record) → ReadsLog image v records → ReadsLog image w others → (v ≡ w) × (records ≡ others)
 
 -- an opening finds a version in the image, whose tables stand
 pub record FindsVersion (image : Image) : Type 0 where
@@ -39,15 +44,23 @@ pub record HoldsLogged (P : LogImage → Type 0) (image : Image) : Type 0 where
   pub good : (v : SeenVersion) → ReadsVersion image v → IsBadLog image v.log_from → ⊥
   pub reads : (v : SeenVersion) (records : List Record) → ReadsLog image v records → P (image_read v records)
 
--- what is left stands for a beginning of these calls between batches, at this place or after it, to which the batch or a clear of unknown
--- outcome at that very place may be added; and it is numbered below whatever is above all that was opened, written and in doubt
-pub record HoldsPast (opened : List Entry) (start : Map) (past : LogPast) (least : ℕ) (left : LogImage) : Type 0 where
+-- all that an image holds is numbered below this: its entries, and the records that count; and its log begins there at most
+pub record IsNumberedBelow (n : ℕ) (image : LogImage) : Type 0 where
+  pub entries : above (opened_by image) ≤ n
+  pub records : AllByRecursion (λ b. b.number < n) (counted image)
+  pub log_from : image.log_from ≤ n
+
+-- What is left stands for a beginning of these calls between batches, at this place or after it, to which the batch or a clear of unknown
+-- outcome at that very place may be added. It is numbered below whatever is above all that was opened, written and in doubt, and below the
+-- place of the counter, so that the next tree's counter starts no higher.
+pub record HoldsPast (opened : List Entry) (start : Map) (past : LogPast) (least counter : ℕ) (left : LogImage) : Type 0 where
   pub recovers : LogRecovers start past.journal past.notes past.lost least left
   pub numbered : (n : ℕ) → AreBelow n opened past.journal past.lost → above (opened_by left) ≤ n
+  pub under : IsNumberedBelow counter left
 
 -- an image that an opening takes so
-abbrev pub Keeps : List Entry → Map → LogPast → ℕ → Image → Type 0
-Keeps opened start past least image = HoldsLogged (HoldsPast opened start past least) image
+abbrev pub Keeps : List Entry → Map → LogPast → (least counter : ℕ) → Image → Type 0
+Keeps opened start past least counter image = HoldsLogged (HoldsPast opened start past least counter) image
 
 -- one that stands for all that was called, outside dropped ranges
 abbrev pub KeepsAll : Map → LogPast → Image → Type 0
@@ -67,7 +80,7 @@ abbrev pub IsSmall : LogImage → Type 0
 IsSmall left = above (opened_by left) ≤ 2 ^ 63
 
 -- one that an opening takes: so is whatever a crash may leave of it
-pub record MayBeOpened (w : World) : Type 0 where
+pub record LogMayBeOpened (w : World) : Type 0 where
   pub read : CanBeRead w
   pub small : (image : Image) → IsImage w.may image → HoldsLogged IsSmall image
 

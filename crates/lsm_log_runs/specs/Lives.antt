@@ -10,31 +10,25 @@ use Rattle.lsm_log_model.specs.Records.{logged, opened_by}
 use Rattle.lsm_logged.specs.Meanwhile.{LeavesAsBefore}
 use Rattle.lsm_logged.specs.Opening.{image_read}
 use Rattle.lsm_run_model.specs.Lives.{End, EndsIn, TakesUp}
+use Rattle.lsm_run_model.specs.Moments.{last_of}
 use Rattle.lsm_runs.specs.declared.steps.Reply.{Reply}
 use Rattle.lsm_runs.specs.Dropping.{Drops}
 use Rattle.lsm_log_runs.specs.declared.steps.LogStep.{LogStep}
 use Rattle.lsm_log_runs.specs.declared.steps.LogStep.TheVariants.{Write}
-use Rattle.lsm_log_runs.specs.Adds.{Adds}
-use Rattle.lsm_log_runs.specs.Dropping.{MayDropBy}
-use Rattle.lsm_log_runs.specs.Images.{Keeps, CanBeRead, MayBeOpened}
-use Rattle.lsm_log_runs.specs.Living.{LivesLogged}
-use Rattle.lsm_log_runs.specs.Pasts.{LogPast, nothing, acknowledged}
+use Rattle.lsm_log_runs.specs.Images.{Keeps, CanBeRead, LogMayBeOpened}
+use Rattle.lsm_log_runs.specs.Living.{opened_at, LivesLogged}
+use Rattle.lsm_log_runs.specs.Pasts.{LogPast, acknowledged}
+use Rattle.lsm_log_runs.specs.Stages.{CalledStage}
 
 -- a batch that removes nothing weakly, and any other step
-abbrev pub IsUsual : LogStep → Type 0
-IsUsual (Write ops) = AllByRecursion (λ p. p.1 ≡ Weak → ⊥) ops
-IsUsual step = Unit {0}
+abbrev pub IsUsualCall : LogStep → Type 0
+IsUsualCall (Write ops) = AllByRecursion (λ p. p.1 ≡ Weak → ⊥) ops
+IsUsualCall step = Unit {0}
 
--- what stands after these steps, and what stood before the last one of them, where the counter stood so
-abbrev pub CalledBy : Drops → List LogStep → List Reply → ℕ → List ℕ → (earlier old before new : LogPast) → Type 0
-CalledBy May [] [] c [] earlier old before new = (before ≡ earlier) × (new ≡ old)
-CalledBy May (x ∷ steps) (r ∷ replies) c (c' ∷ counters) earlier old before new = (mid : LogPast) × Adds (MayDropBy May x) c x r old mid × CalledBy May steps replies c' counters old mid before new
-CalledBy May steps replies c counters earlier old before new = ⊥
-
--- the store before the last step; the one that was opened, where there is none
-abbrev pub before_last : {F : Type 0} → (earlier was : F) → List F → F
+-- the stage before the last step; the one after opening, where there is none
+abbrev pub before_last : {F : Type 0} → (earlier was : CalledStage F) → List (CalledStage F) → CalledStage F
 before_last earlier was [] = earlier
-before_last earlier was (is ∷ stores) = before_last was is stores
+before_last earlier was (is ∷ stages) = before_last was is stages
 
 -- a life ended in what led from one store to another, or after it, and the next one takes up what it left
 pub record PassesOn {F : Type 0} (world : F → World) (before is next : F) : Type 0 where
@@ -49,22 +43,21 @@ pub record LoggedLife {F : Type 0} (May : Drops) (world : F → World) (was next
   pub is : F
   pub from : ℕ
   pub life : LivesLogged May world from steps replies was is
-  pub usual : AllByRecursion IsUsual steps
-  pub then : PassesOn world (before_last life.first life.first life.stores) is next
+  pub usual : AllByRecursion IsUsualCall steps
+  pub then : let first = opened_at life.first life.counter in PassesOn world (before_last first first life.stages).at is next
 
 -- that much is kept of some calls, whatever a crash may leave of the store
-abbrev pub StillKept : List Entry → Map → LogPast → ℕ → World → Type 0
-StillKept opened start past least w = (image : Image) → IsImage w.may image → Keeps opened start past least image
+abbrev pub StillKept : List Entry → Map → LogPast → (least counter : ℕ) → World → Type 0
+StillKept opened start past least counter w = (image : Image) → IsImage w.may image → Keeps opened start past least counter image
 
 -- The next one may be opened, and is kept of the life: it stands for a beginning of its calls between batches, which holds all that was
 -- acknowledged before the last step; and what that acknowledged too, where the end came after it.
 pub record GoesWell {F : Type 0} (May : Drops) (world : F → World) (was next : F) (l : LoggedLife May world was next) : Type 0 where
-  pub opens : MayBeOpened (world next)
-  pub before : LogPast
-  pub past : LogPast
-  pub called : CalledBy May l.steps l.replies l.life.counter l.life.counters nothing nothing before past
-  pub keeps : let left = image_read l.life.version l.life.records in StillKept (opened_by left) (logged left) past (acknowledged before) (world next)
-  pub behind : let left = image_read l.life.version l.life.records in (image : Image) → IsImage (world next).may image → (world l.is).since (world l.is).moment image → Keeps (opened_by left) (logged left) past (acknowledged past) image
+  pub opens : LogMayBeOpened (world next)
+  pub keeps : let left = image_read l.life.version l.life.records in let first = opened_at l.life.first l.life.counter in let last = last_of first l.life.stages in
+      StillKept (opened_by left) (logged left) last.past (acknowledged (before_last first first l.life.stages).past) last.counter (world next)
+  pub behind : let left = image_read l.life.version l.life.records in let last = last_of (opened_at l.life.first l.life.counter) l.life.stages in
+      (image : Image) → IsImage (world next).may image → (world l.is).since (world l.is).moment image → Keeps (opened_by left) (logged left) last.past (acknowledged last.past) last.counter image
 
 -- a life that ends in its opening, whatever that was to answer: by a crash or a kill at any moment of it, or where it gave back its store
 pub record OpeningLife {F : Type 0} (world : F → World) (was next : F) : Type 0 where
@@ -76,8 +69,8 @@ pub record OpeningLife {F : Type 0} (world : F → World) (was next : F) : Type 
 -- The next one can be read, and may be opened where the one before might; and of the calls before all is kept that was.
 pub record GoesOn {F : Type 0} (world : F → World) (was next : F) : Type 0 where
   pub reads : CanBeRead (world next)
-  pub opens : MayBeOpened (world was) → MayBeOpened (world next)
-  pub keeps : (opened : List Entry) (start : Map) (past : LogPast) (least : ℕ) → StillKept opened start past least (world was) → StillKept opened start past least (world next)
+  pub opens : LogMayBeOpened (world was) → LogMayBeOpened (world next)
+  pub keeps : (opened : List Entry) (start : Map) (past : LogPast) (least counter : ℕ) → StillKept opened start past least counter (world was) → StillKept opened start past least counter (world next)
 
 -- one life after the other, each on what the one before left
 abbrev pub LoggedLives : {F : Type 0} → Drops → (F → World) → F → List F → Type 0
@@ -101,4 +94,4 @@ OpeningsAreLoggedLives {F} world = (was next : F) → OpeningLife world was next
 
 -- A new store may be opened, so lives may begin.
 abbrev pub NewLogsOpen : {F : Type 0} → (F → World) → Type 0
-NewLogsOpen {F} world = (store : F) → Begins (λ name. None) (world store) → MayBeOpened (world store)
+NewLogsOpen {F} world = (store : F) → Begins (λ name. None) (world store) → LogMayBeOpened (world store)

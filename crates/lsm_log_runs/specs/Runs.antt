@@ -1,12 +1,11 @@
 -- What each step of a run on a logged tree may answer and do.
-use Rattle.std.specs.Prelude.{◌≡◌, ◌⊎◌, ℕ, ◌<◌, ◌≤◌, ◌^◌, List, [], ◌∷◌, None, Result, Ok, Err}
+use Rattle.std.specs.Prelude.{◌≡◌, ◌⊎◌, ℕ, ◌<◌, ◌≤◌, ◌^◌, List, [], None, Result, Ok, Err}
 use Rattle.lsm_below.specs.Keys.{Bytes}
 use Rattle.lsm_below.specs.declared.error.Error.{Error}
 use Rattle.lsm_below.specs.declared.error.Error.TheVariants.{OutOfMemory, OutOfNumbers}
 use Rattle.lsm_model.specs.declared.op.Op.{Op}
 use Rattle.lsm_model.specs.Journal.{Event}
 use Rattle.lsm_parts.specs.Held.{first_entries}
-use Rattle.lsm_run_model.specs.Moments.{last_of}
 use Rattle.lsm_runs.specs.declared.steps.Reply.{Reply}
 use Rattle.lsm_runs.specs.declared.steps.Reply.TheVariants.{Number, Sealed, Done, Flushed, FlushedActive, RefusedActive, Cleared, Truth, NoStrategy, Refused}
 use Rattle.lsm_runs.specs.Compacting.{Strategies, reply_of, TakesTableId as DrawsTableId}
@@ -21,7 +20,7 @@ use Rattle.lsm_log_runs.specs.declared.steps.LogStep.{LogStep}
 use Rattle.lsm_log_runs.specs.declared.steps.LogStep.TheVariants.{Write, RotateMemtable, AtSlot, Flush, FlushActiveMemtable, Compact, MajorCompact, DropRange, Clear, GetNextTableId, SetMoment, IsUncertain}
 use Rattle.lsm_log_runs.specs.JobSteps.{TakesInSlot}
 use Rattle.lsm_log_runs.specs.Reads.{read_of, TakesRead}
-use Rattle.lsm_log_runs.specs.Slots.{LogStage, at_first, StaysBeside, EndsLogged}
+use Rattle.lsm_log_runs.specs.Slots.{LogStage, StaysBeside}
 
 -- ---- what a step of each kind may answer and do
 
@@ -95,15 +94,3 @@ TakesAlone strategies step reply old new = TakesRead strategies (read_of step) r
 abbrev pub Takes : {S : Type 0} → Strategies → LogStep → Reply → LogStage S → LogStage S → Type 0
 Takes strategies (AtSlot slot step) reply old new = TakesInSlot strategies slot step reply old new
 Takes strategies step reply old new = TakesAlone strategies step reply old.tree new.tree × (new.jobs ≡ old.jobs)
-
--- the steps, one after the other, lead through these stages
-abbrev pub RanThrough : {S : Type 0} → Strategies → List LogStep → List Reply → LogStage S → List (LogStage S) → Type 0
-RanThrough strategies [] [] old [] = Unit {0}
-RanThrough strategies (x ∷ steps) (r ∷ replies) old (mid ∷ stages) = Takes strategies x r old mid × RanThrough strategies steps replies mid stages
-RanThrough strategies steps replies old stages = ⊥
-
--- They lead so from a tree beside free slots, and each job that waits after them is given up.
-pub record RanLogged {S : Type 0} (strategies : Strategies) (steps : List LogStep) (replies : List Reply) (old new : SeenLogged S) : Type 0 where
-  pub stages : List (LogStage S)
-  pub ran : RanThrough strategies steps replies (at_first old) stages
-  pub ends : EndsLogged (last_of (at_first old) stages) new

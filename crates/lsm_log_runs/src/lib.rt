@@ -12,8 +12,8 @@ mod runner;
 mod steps;
 
 pub use life::{
-    any_number_of_logged_lives, crashed_logs_open, live_logged, new_logs_open, opened_logs_stand,
-    openings_are_logged_lives, standing_logs_are_taken,
+    any_number_of_logged_lives, crashed_logs_open, live_logged, logs_open_once, new_logs_open,
+    opened_logs_stand, opened_runs_are_lives, openings_are_logged_lives, standing_logs_are_taken,
 };
-pub use runner::run_logged;
+pub use runner::{give_up_all, run_from, run_logged, steps_lead};
 pub use steps::{LogStep, TakenLogged};

@@ -7,15 +7,14 @@ ghost use Rattle.lsm_runs.specs.Compacting.{strategies_of};
 ghost use Rattle.lsm_runs.specs.Files.{StaysStored};
 ghost use Rattle.lsm_runs.specs.Slots.{SameJobs};
 ghost use Rattle.lsm_logged.specs.Acting.{ActsNot};
-ghost use Rattle.lsm_log_runs.specs.Causes.{EachHasCause};
-ghost use Rattle.lsm_log_runs.specs.Doing.{Acts, ActsBatch, StepDoes, RanTo};
-ghost use Rattle.lsm_log_runs.specs.Runs.{Takes, TakesBatch, TakesTableId, RanLogged};
-ghost use Rattle.lsm_log_runs.specs.Leading.{RunsLogged};
+ghost use Rattle.lsm_log_runs.specs.Doing.{Acts, ActsBatch, StepDoes};
+ghost use Rattle.lsm_log_runs.specs.LoggedRuns.{RanThrough, RunsBetween, RunsWhole, StepsLead, RunsJoin, CompactionsAreSteps};
+ghost use Rattle.lsm_log_runs.specs.Runs.{Takes, TakesBatch, TakesTableId};
 ghost use Rattle.lsm_log_runs.specs.Slots.{beside};
 
 use crate::{LogStep, TakenLogged};
 use lsm_below::UserKey;
-use lsm_commit::{crashes_leave_versions, stored_files_are_ready};
+use lsm_commit::stored_files_are_ready;
 use lsm_journal::{noted_compactions_keep_reads, share_ops};
 use lsm_log_model::{
     acts_join, counter_stays_above, every_crash_keeps_batches, left_is_numbered, log_stays_sound,
@@ -147,7 +146,6 @@ fn add_step<S: Store>(
 {
     replies.try_reserve(1)?;
     let reply = take_step(alloc, tree, slots, strategies, step)?;
-    crashes_leave_versions(tree.store());
     replies.push(reply)?;
     Ok(())
 }
@@ -161,8 +159,7 @@ fn take_steps<S: Store>(
 ) -> TakenLogged
     ensures bound { length result.replies.items ≤ length steps.now }
     ensures whole { OnOk result.ended (length result.replies.items ≡ length steps.now) }
-    ensures ran { RanTo (strategies_of (λ b. may_choose b) (λ b. may_refuse b) strategies.now) S.tells S.world (take (length result.replies.items) steps.now) result.replies.items (beside tree.old slots.old) (beside tree.new slots.new) }
-    ensures causes { EachHasCause S.world result.replies.items tree.old.store tree.new.store }
+    ensures ran { RanThrough (StepDoes (strategies_of (λ b. may_choose b) (λ b. may_refuse b) strategies.now) S.tells S.world) S.world (take (length result.replies.items) steps.now) result.replies.items (beside tree.old slots.old) (beside tree.new slots.new) }
 {
     let mut replies = Vec::new(alloc);
     for step in steps {
@@ -182,22 +179,80 @@ fn take_steps<S: Store>(
     }
 }
 
+/// Steps that somebody took in a loop of his own, each by its public call, are a run like one of `run_from`, through just the
+/// stages of that loop: its trees, stores, and jobs. So are two runs in turn, of which the second begins where the first ended.
+/// A call is its step as its clauses stand, and a compaction by a strategy of the list is the step that names its index.
+///
+/// # Examples
+///
+/// ```text
+/// steps_lead(tree.store(), &strategies);
+/// ```
+pub fn steps_lead<S: Store>(store: &S, strategies: &[Box<dyn CompactionStrategy>])
+    ensures lead { StepsLead S.tells (strategies_of (λ b. may_choose b) (λ b. may_refuse b) strategies.now) S.world }
+    ensures join { RunsJoin S.tells (strategies_of (λ b. may_choose b) (λ b. may_refuse b) strategies.now) S.world }
+    ensures compacts { CompactionsAreSteps S.tells (strategies_of (λ b. may_choose b) (λ b. may_refuse b) strategies.now) S.world }
+{
+    reads_are_sound();
+    lists_are_steps();
+    acts_join();
+    counter_stays_above();
+    log_stays_sound();
+    every_crash_keeps_batches();
+    whole_is_logged();
+    logged_reads_are_right();
+    left_is_numbered();
+    noted_compactions_keep_reads();
+    records_are_those_read();
+    versions_are_told_once();
+    images_stand_once();
+    unread_names_dont_matter();
+    stored_files_are_ready(store);
+    logs_can_be_settled(store);
+}
+
 /// Takes the steps in turn on a logged tree, and returns each one's reply. A step names a strategy by its index; where
-/// there is none it changes nothing. A job waits in its slot from one step to the next, and one that waits when the run
-/// ends is given up.
+/// there is none it changes nothing. A job waits in its slot from one step to the next, and from one run to the next.
 ///
 /// A step that is refused has that as its reply, and the run goes on with the next one. The run ends early only before a step
 /// for whose reply, or for whose batch, no memory is left, and says so (`whole`): the tree is as it was before that step, and
 /// the replies are those of the steps that were taken.
 ///
-/// After whatever was called before (`StandsLogged`, as `Logged::open` leaves it), and as long as no batch removes a key
-/// weakly that was set more than once, reads equal the replay of the calls before them, and no step changes what a snapshot
-/// sees but a write, a clear or a drop numbered below it; at each moment a crash leaves an image that `Logged::open` takes,
-/// and that stands for a beginning of the calls between batches, which holds all that was acknowledged, flushed or cleared
-/// before the step of that moment: each batch is in it whole, or not at all. While every outcome is known, an image stands
-/// for all that was called. A process that is killed in a step leaves what `Logged::open` takes, too. Nothing that is left is
-/// numbered higher than what was opened or written, so `Logged::open` never refuses it for its numbers. After each step the
-/// same holds again, so that calls may go on.
+/// After whatever was called before (`StandsWithJobs`, as `Logged::open` and each run leave it), and as long as no batch removes
+/// a key weakly that was set more than once, reads equal the replay of the calls before them, outside dropped ranges; all
+/// reads of one tree at one snapshot agree on every key; and no step changes what a snapshot sees but a write, a clear or a
+/// drop numbered below it. At each moment a crash leaves an image that `Logged::open` takes, and that stands for a
+/// beginning of the calls between batches, which holds all that was acknowledged, flushed or cleared before the step of
+/// that moment: each batch is in it whole, or not at all. While every outcome is known, an image stands for all that was
+/// called. A process that is killed in a step leaves what `Logged::open` takes, too. Nothing that is left is numbered higher
+/// than what was opened or written, so `Logged::open` never refuses it for its numbers.
+///
+/// # Examples
+///
+/// ```text
+/// let mut slots = Slots::new(alloc);
+/// let begun = run_from(alloc, &mut tree, &mut slots, &strategies, &[LogStep::AtSlot(0, JobStep::BeginFlush)]);
+/// let rest = run_from(alloc, &mut tree, &mut slots, &strategies, &steps);
+/// give_up_all(&mut tree, slots);
+/// ```
+pub fn run_from<S: Store>(
+    alloc: Global,
+    tree: &mut Logged<S>,
+    slots: &mut Slots,
+    strategies: &[Box<dyn CompactionStrategy>],
+    steps: &[LogStep],
+) -> TakenLogged
+    // It ends early for want of memory alone.
+    ensures bound { length result.replies.items ≤ length steps.now }
+    ensures whole { OnOk result.ended (length result.replies.items ≡ length steps.now) }
+    // The log theorem, over one list of stages.
+    ensures runs { RunsBetween S.tells (strategies_of (λ b. may_choose b) (λ b. may_refuse b) strategies.now) S.world (take (length result.replies.items) steps.now) result.replies.items (beside tree.old slots.old) (beside tree.new slots.new) }
+{
+    steps_lead(tree.store(), strategies);
+    take_steps(alloc, tree, slots, strategies, steps)
+}
+
+/// Takes the steps in turn on a logged tree, as `run_from` beside free slots. A job that waits when the run ends is given up.
 ///
 /// # Examples
 ///
@@ -214,33 +269,12 @@ pub fn run_logged<S: Store>(
     // It ends early for want of memory alone.
     ensures bound { length result.replies.items ≤ length steps.now }
     ensures whole { OnOk result.ended (length result.replies.items ≡ length steps.now) }
-    // Each step is the call that it is named after.
-    ensures ran { RanLogged (strategies_of (λ b. may_choose b) (λ b. may_refuse b) strategies.now) (take (length result.replies.items) steps.now) result.replies.items tree.old tree.new }
-    // What is read and spared, what a crash or a kill leaves at each moment, and what stands after each step.
-    ensures runs { S.tells → RunsLogged (strategies_of (λ b. may_choose b) (λ b. may_refuse b) strategies.now) S.world (take (length result.replies.items) steps.now) result.replies.items tree.old tree.new }
-    // The store is blamed only where a call of it failed.
-    ensures causes { EachHasCause S.world result.replies.items tree.old.store tree.new.store }
+    // The log theorem, over one list of stages.
+    ensures runs { RunsWhole S.tells (strategies_of (λ b. may_choose b) (λ b. may_refuse b) strategies.now) S.world (take (length result.replies.items) steps.now) result.replies.items tree.old tree.new }
 {
-    reads_are_sound();
-    lists_are_steps();
-    acts_join();
-    counter_stays_above();
-    log_stays_sound();
-    every_crash_keeps_batches();
-    whole_is_logged();
-    logged_reads_are_right();
-    left_is_numbered();
-    noted_compactions_keep_reads();
-    records_are_those_read();
-    versions_are_told_once();
-    images_stand_once();
-    unread_names_dont_matter();
-    crashes_leave_versions(tree.store());
-    stored_files_are_ready(tree.store());
-    logs_can_be_settled(tree.store());
     let mut slots = Slots::new(alloc);
-    let taken = take_steps(alloc, tree, &mut slots, strategies, steps);
-    jobs::give_up_all(tree, slots);
+    let taken = run_from(alloc, tree, &mut slots, strategies, steps);
+    give_up_all(tree, slots);
     taken
 }
 
@@ -248,3 +282,5 @@ mod commits;
 mod flush_jobs;
 mod jobs;
 mod merge_jobs;
+
+pub use jobs::give_up_all;

@@ -4,8 +4,9 @@ pub use lsm_below::{entries_are_ordered, first_visible_is_top, keys_are_ordered,
 pub use lsm_commit::stored_files_are_ready;
 pub use lsm_iter::shown_is_the_view;
 pub use lsm_log_runs::{
-    any_number_of_logged_lives, crashed_logs_open, new_logs_open, opened_logs_stand,
-    openings_are_logged_lives, standing_logs_are_taken,
+    any_number_of_logged_lives, crashed_logs_open, logs_open_once, new_logs_open,
+    opened_logs_stand, opened_runs_are_lives, openings_are_logged_lives, standing_logs_are_taken,
+    steps_lead,
 };
 pub use lsm_logged::{
     images_have_logs, logs_can_be_settled, records_are_those_read, versions_are_told_once,

@@ -62,10 +62,10 @@ pub use lsm_store::{
 pub use lsm_handles::{Gate, Handle, HasTree, LoggedTree, ReadsTree, RecordedTree, RunJob, Tree};
 
 // Calls as data, the call history and the log.
-pub use lsm_log_runs::{LogStep, TakenLogged, live_logged, run_logged};
+pub use lsm_log_runs::{LogStep, TakenLogged, give_up_all, live_logged, run_from, run_logged};
 pub use lsm_logged::Logged;
 pub use lsm_model::{Answer, JournalEntry, KeyBound, KeyRanges, KvPairs, Op, Ops, Question};
 pub use lsm_recorded::{Closed, Pass, Recorded, SharedEntry};
 pub use lsm_runs::{
-    Compacted, Count, Counter, JobStep, Outcome, Reply, Slot, Step, Taken, live, run,
+    Compacted, Count, Counter, JobStep, Outcome, Reply, Slot, Slots, Step, Taken, live, run,
 };

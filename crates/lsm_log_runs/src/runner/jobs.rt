@@ -7,7 +7,11 @@ ghost use Rattle.lsm_runs.specs.Files.{StaysStored};
 ghost use Rattle.lsm_runs.specs.Slots.{job_in, SameJobs, GivesUp};
 ghost use Rattle.lsm_log_runs.specs.Doing.{ActsJob};
 ghost use Rattle.lsm_log_runs.specs.JobSteps.{TakesJob, TakesInSlot};
-ghost use Rattle.lsm_log_runs.specs.Slots.{beside, StaysBeside, EndsLogged};
+ghost use Rattle.lsm_log_model.specs.Records.{LogImage};
+ghost use Rattle.lsm_log_runs.specs.LoggedRuns.{called};
+ghost use Rattle.lsm_log_runs.specs.Pasts.{LogPast};
+ghost use Rattle.lsm_log_runs.specs.Slots.{at_first, beside, StaysBeside, EndsLogged};
+ghost use Rattle.lsm_log_runs.specs.Standing.{StandsWithJobs};
 
 use super::{flush_jobs, merge_jobs};
 use lsm_logged::Logged;
@@ -82,9 +86,16 @@ fn give_up<S: Store>(tree: &mut Logged<S>, place: Option<Job>)
     }
 }
 
-/// Gives up all jobs that wait.
-pub(super) fn give_up_all<S: Store>(tree: &mut Logged<S>, slots: Slots)
-    ensures { EndsLogged (beside tree.old slots) tree.new }
+/// Gives up all jobs that wait. It calls no store: what stood stands beside free slots.
+///
+/// # Examples
+///
+/// ```text
+/// give_up_all(&mut tree, slots);
+/// ```
+pub fn give_up_all<S: Store>(tree: &mut Logged<S>, slots: Slots)
+    ensures ends { EndsLogged (beside tree.old slots) tree.new }
+    ensures stands { (image : LogImage) (past : LogPast) → StandsWithJobs S.world image (called (beside tree.old slots) past) → StandsWithJobs S.world image (called (at_first tree.new) past) }
 {
     for (_, place) in slots {
         give_up(tree, place);

@@ -1,6 +1,6 @@
 use Rattle.std.proofs.Common.{◌≡◌, [], refl, sym, subst}
 use Rattle.lsm_runs.specs.Slots.{GivesUpAll}
-use Rattle.lsm_log_runs.proofs.Closing.{all_waiting, beside_then}
+use Rattle.lsm_log_runs.proofs.Closing.{all_waiting, beside_then, given_up_stands}
 use Rattle.lsm_log_runs.proofs.runner.jobs.give_up_all.Goals as goal
 
 pub loop-place-preserved : goal.loop-place-preserved
@@ -10,8 +10,8 @@ loop-place-preserved g c = record {
   rest = beside_then _ _ _ c.loop-place.invariant.rest c.give_up.ensures.rest;
 }
 
-pub returns : goal.returns
-returns g c =
+pub returns-clause-ends : goal.returns-clause-ends
+returns-clause-ends g c =
     let mid = c.loop-place.tree in
     let none : c.loop-place.place-iterator ≡ [] = c.in-None.ensures.steps.0 in
     record {
@@ -20,3 +20,6 @@ returns g c =
       given_up = c.loop-place.invariant.core mid.core (subst (λ es. GivesUpAll es mid.core mid.core) (sym none) refl);
       rest = c.loop-place.invariant.rest;
     }
+
+pub returns-clause-stands : goal.returns-clause-stands
+returns-clause-stands g c image past s = given_up_stands g.S.Store.world image past _ _ (returns-clause-ends g c) s
