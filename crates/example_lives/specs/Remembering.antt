@@ -1,97 +1,101 @@
 -- What outlives any number of crashes, as a user asks it: derived from the contracts of public calls.
-use Rattle.std.specs.Prelude.{ℕ, ◌+◌, ◌<◌, ◌≤◌, ◌^◌, List, [], ◌∷◌, length, take}
+use Rattle.std.specs.Prelude.{◌≡◌, ◌⊎◌, ℕ, ◌+◌, ◌<◌, ◌≤◌, Bool, true, false, List, [], ◌∷◌, length, take, OnOk}
 use Rattle.lsm_log_runs.specs.Entries.{Entry, above}
-use Rattle.lsm_log_runs.specs.Memory.{MemStore, world_of}
-use Rattle.lsm_log_runs.specs.World.{World}
+use Rattle.lsm_runs.specs.Error.{Error}
+use Rattle.lsm_runs.specs.Error.TheVariants.{OutOfMemory, Store, CommitUnknown}
+use Rattle.lsm_log_runs.specs.World.{IsImage}
+use Rattle.lsm_log_runs.specs.Memory.{MemStore, may_of, world_of}
+use Rattle.lsm_log_runs.specs.Picks.{Picks, picked}
 use Rattle.lsm_log_runs.specs.Journal.{Map}
 use Rattle.lsm_log_runs.specs.Recovery.{HoldsBatches}
 use Rattle.lsm_log_runs.specs.Meanwhile.{LeavesAsBefore}
-use Rattle.lsm_log_runs.specs.Reply.{Reply}
+use Rattle.lsm_runs.specs.Causes.{ReplyBlames}
 use Rattle.lsm_runs.specs.Dropping.{Drops}
+use Rattle.lsm_log_runs.specs.Reply.{Reply}
 use Rattle.lsm_log_runs.specs.declared.steps.LogStep.{LogStep}
 use Rattle.lsm_log_runs.specs.declared.steps.TakenLogged.{TakenLogged}
-use Rattle.lsm_log_runs.specs.Adds.{Adds}
+use Rattle.lsm_log_runs.specs.Adds.{LogAdds}
 use Rattle.lsm_log_runs.specs.Dropping.{MayDropBy}
-use Rattle.lsm_log_runs.specs.Images.{MayBeOpened, IsWantOf}
-use Rattle.lsm_log_runs.specs.Lives.{CalledBy, StillKept}
 use Rattle.lsm_log_runs.specs.Living.{LivesLogged}
-use Rattle.lsm_log_runs.specs.Moments.{Answers}
 use Rattle.lsm_log_runs.specs.Pasts.{LogPast, nothing, acknowledged}
+use Rattle.lsm_log_runs.specs.Stages.{Answers}
+use Rattle.lsm_log_runs.specs.Trying.{HasReason}
 use Rattle.example_lives.specs.declared.lives.Life.{Life}
 use Rattle.example_lives.specs.declared.lives.Lived.{Lived}
 use Rattle.example_lives.specs.declared.lives.Lived.TheVariants.{Took, Refused}
 
--- each read answers what the replay of the calls before it does, outside dropped ranges; what a step adds follows from its kind and reply, and
--- it draws one number at most, the one at which the counter stands
-abbrev pub EachAnswers : Drops → List Entry → Map → List LogStep → List Reply → LogPast → ℕ → List ℕ → Type 0
-EachAnswers May opened start [] [] past c [] = Unit {0}
-EachAnswers May opened start (x ∷ steps) (r ∷ replies) past c (c' ∷ counters) =
-    Answers opened start past.journal x r × ((c ≤ c') × (c' ≤ c + 1)) × ((next : LogPast) × Adds (MayDropBy May x) c x r past next × EachAnswers May opened start steps replies next c' counters)
-EachAnswers May opened start steps replies past c counters = ⊥
-
--- the same on a tree that was opened as this map, its counter above all that was found, where a snapshot of 2^64 - 1 sees all of it
-pub record AnswersReplay (May : Drops) (start : Map) (steps : List LogStep) (replies : List Reply) : Type 0 where
-  pub opened : List Entry
-  pub counter : ℕ
-  pub counters : List ℕ
-  pub all : above opened ≤ counter
-  pub fits : counter < 2 ^ 64
-  pub answers : EachAnswers May opened start steps replies nothing counter counters
-
--- The map is, outside dropped ranges, a beginning of the calls that these steps made over another one: it stands between two batches, and
--- holds all that was acknowledged, flushed or cleared.
-pub record IsLeftOf (May : Drops) (start : Map) (steps : List LogStep) (replies : List Reply) (left : Map) : Type 0 where
-  pub counter : ℕ
-  pub counters : List ℕ
-  pub before : LogPast
-  pub past : LogPast
-  pub called : CalledBy May steps replies counter counters nothing nothing before past
-  pub holds : HoldsBatches start past.journal past.notes past.lost (acknowledged past) left
-
--- the steps of a life that were taken: as many as it replied
-abbrev pub steps_taken : Life → TakenLogged → List LogStep
-steps_taken life taken = take (length taken.replies.items) life.steps.items
-
--- Each life that is opened begins with a map that the last one before it leaves, which made these calls over this map, and its reads answer
--- the replay over that. One is refused only for want of memory, or since a call of the store failed.
-abbrev pub EachRemembers : Drops → Map → List LogStep → List Reply → List Life → List Lived → Type 0
-EachRemembers May start steps replies [] [] = Unit {0}
-EachRemembers May start steps replies (life ∷ lives) (Took taken ∷ lived) =
-    (next : Map) × IsLeftOf May start steps replies next × AnswersReplay May next (steps_taken life taken) taken.replies.items × EachRemembers May next (steps_taken life taken) taken.replies.items lives lived
-EachRemembers May start steps replies (life ∷ lives) (Refused e ∷ lived) = IsWantOf e × EachRemembers May start steps replies lives lived
-EachRemembers May start steps replies lives lived = ⊥
-
 -- ---- one life
 
--- a life that was lived, or ended in its opening
-abbrev pub LivesSo : Drops → MemStore → List LogStep → Lived → MemStore → Type 0
-LivesSo May was steps (Took taken) is = LivesLogged May world_of 0 (take (length taken.replies.items) steps) taken.replies.items was is
-LivesSo May was steps (Refused e) is = IsWantOf e × LeavesAsBefore (world_of was) (world_of is)
+-- From what was called before, under the counter, to what was called in the end, step by step: a read answers what the replay of the calls
+-- before it does; a batch is refused for its reason, and no step tells of a fault unless a call of the store failed; what a step adds follows
+-- from its kind and its reply, and it draws one number at most, the one at which the counter stands.
+abbrev pub EachTakes : Drops → (failures : ℕ) → List Entry → Map → List LogStep → List Reply → LogPast → ℕ → LogPast → ℕ → Type 0
+EachTakes May failures opened start [] [] past counter last last_counter = (last ≡ past) × (last_counter ≡ counter)
+EachTakes May failures opened start (x ∷ steps) (r ∷ replies) past counter last last_counter =
+    Answers opened start past.journal x r × HasReason counter past.known x r × (ReplyBlames r → 0 < failures)
+    × ((next : LogPast) × (c : ℕ) × LogAdds (MayDropBy May x) counter x r past next × (counter ≤ c) × (c ≤ counter + 1) × EachTakes May failures opened start steps replies next c last last_counter)
+EachTakes May failures opened start steps replies past counter last last_counter = ⊥
 
--- what is kept of these calls, whatever a crash may leave
-pub record IsKeptOf (May : Drops) (start : Map) (steps : List LogStep) (replies : List Reply) (w : World) : Type 0 where
-  pub counter : ℕ
-  pub counters : List ℕ
-  pub before : LogPast
-  pub past : LogPast
-  pub called : CalledBy May steps replies counter counters nothing nothing before past
+-- A tree that showed this map, all of it numbered below this number, took these steps: all of them, unless memory ran out. So many calls of
+-- its store had failed in the end.
+pub record LivesWithLog (May : Drops) (start : Map) (least : ℕ) (steps : List LogStep) (taken : TakenLogged) (failures : ℕ) : Type 0 where
+  pub all : OnOk taken.ended (length taken.replies.items ≡ length steps)
+  -- the entries that it found, and its counter above them: none, and 0, where the number is 0
   pub opened : List Entry
-  pub kept : StillKept opened start past (acknowledged past) w
+  pub counter : ℕ
+  pub found : above opened ≤ counter
+  pub starts : counter ≤ least
+  -- what was called in the end, and where the counter stood then
+  pub past : LogPast
+  pub last : ℕ
+  pub takes : EachTakes May failures opened start (take (length taken.replies.items) steps) taken.replies.items nothing counter past last
 
--- from one store to the next one, by steps: what the tree was opened as is what was kept, whatever that was
-pub record LeadsBy (May : Drops) (was : World) (steps : List LogStep) (replies : List Reply) (next : World) : Type 0 where
-  pub start : Map
-  pub begins : (opened : List Entry) (first : Map) (past : LogPast) (least : ℕ) → StillKept opened first past least was → HoldsBatches first past.journal past.notes past.lost least start
-  pub answers : AnswersReplay May start steps replies
-  pub opens : MayBeOpened next
-  pub keeps : IsKeptOf May start steps replies next
+-- The map is, outside dropped ranges, a beginning of the calls of that life: it stands between two batches, and holds all that was
+-- acknowledged, flushed or cleared. The batch of unknown outcome, if there is one, is in it whole, or not at all.
+abbrev pub IsLeftWhole : {May : Drops} {start : Map} {least : ℕ} {steps : List LogStep} {taken : TakenLogged} {failures : ℕ} → LivesWithLog May start least steps taken failures → Map → Type 0
+IsLeftWhole {start = start} life left = HoldsBatches start life.past.journal life.past.notes life.past.lost (acknowledged life.past) left
 
--- all is kept that was
-pub record KeepsAll (was next : World) : Type 0 where
-  pub opens : MayBeOpened next
-  pub keeps : (opened : List Entry) (first : Map) (past : LogPast) (least : ℕ) → StillKept opened first past least was → StillKept opened first past least next
+-- ---- life after life
 
--- by a life, which keeps all where its opening was refused, as it may be
-abbrev pub LeadsOn : Drops → World → Life → Lived → World → Type 0
-LeadsOn May was life (Took taken) next = LeadsBy May was (steps_taken life taken) taken.replies.items next
-LeadsOn May was life (Refused e) next = IsWantOf e × KeepsAll was next
+-- why an opening is refused, on a store of which so many calls have failed: for want of memory, or since one of them failed
+abbrev pub IsWant : Error → (failures : ℕ) → Type 0
+IsWant e failures = (e ≡ OutOfMemory) ⊎ (((e ≡ Store) ⊎ (e ≡ CommitUnknown)) × (0 < failures))
+
+-- the lives after this one follow; or none does, and that is told
+abbrev pub FollowsOrEnds : Bool → List Lived → (Rest : Type 0) → Type 0
+FollowsOrEnds crashed lived Rest = Rest ⊎ ((lived ≡ []) × (crashed ≡ false))
+
+-- Each life that is opened begins with a map that is left, numbered below this number, and what it leaves is for the next ones. One that isn't
+-- opened was refused for its cause, and leaves what was left before.
+abbrev pub EachRemembers : Drops → (Left : Map → Type 0) → (least : ℕ) → List Life → List Lived → (crashed : Bool) → Type 0
+EachRemembers May Left least [] [] crashed = crashed ≡ true
+EachRemembers May Left least (life ∷ lives) (Took taken store ∷ lived) crashed =
+    (start : Map) × Left start × ((l : LivesWithLog May start least life.steps.items taken store.failures)
+    × FollowsOrEnds crashed lived (EachRemembers May (IsLeftWhole l) l.last lives lived crashed))
+EachRemembers May Left least (life ∷ lives) (Refused e store ∷ lived) crashed = IsWant e store.failures × FollowsOrEnds crashed lived (EachRemembers May Left least lives lived crashed)
+EachRemembers May Left least lives lived crashed = ⊥
+
+-- ---- crash after crash
+
+-- the store in the end of a life
+abbrev pub store_of : Lived → MemStore
+store_of (Took taken store) = store
+store_of (Refused e store) = store
+
+-- a crash may leave what is picked of the store
+abbrev pub CanBeLeft : Picks → MemStore → Type 0
+CanBeLeft picks store = IsImage (may_of store.files) (picked store.files picks)
+
+-- After each life a crash may leave what is picked, and the next one follows; or none may, no life follows, and that is told.
+abbrev pub EachCrashes : List Life → List Lived → (crashed : Bool) → Type 0
+EachCrashes [] [] crashed = crashed ≡ true
+EachCrashes (life ∷ lives) (how ∷ lived) crashed =
+    (CanBeLeft life.picks.items (store_of how) × EachCrashes lives lived crashed) ⊎ ((CanBeLeft life.picks.items (store_of how) → ⊥) × (lived ≡ []) × (crashed ≡ false))
+EachCrashes lives lived crashed = ⊥
+
+-- ---- one call
+
+-- a life that was lived on this store, or ended in its opening
+abbrev pub LivesSo : Drops → MemStore → List LogStep → Lived → Type 0
+LivesSo May was steps (Took taken is) = OnOk taken.ended (length taken.replies.items ≡ length steps) × LivesLogged May world_of 0 (take (length taken.replies.items) steps) taken.replies.items was is
+LivesSo May was steps (Refused e is) = IsWant e is.failures × LeavesAsBefore (world_of was) (world_of is)
