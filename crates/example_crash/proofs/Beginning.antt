@@ -17,6 +17,7 @@ use Rattle.lsm_runs.specs.Core.{Core, opened_core}
 use Rattle.lsm_runs.specs.Opened.{found_entries, OpensTree}
 use Rattle.lsm_runs.specs.declared.steps.Step.{Step}
 use Rattle.lsm_runs.specs.After.{RunIsRight}
+use Rattle.lsm_runs.specs.Causes.{EachHasCause}
 use Rattle.lsm_runs.specs.Compacting.{Strategies}
 use Rattle.lsm_runs.specs.Files.{StaysStored}
 use Rattle.lsm_runs.specs.Moments.{RunHasMoments}
@@ -27,29 +28,15 @@ use Rattle.lsm_runs.proofs.Starting.{starts_above, found_same}
 use Rattle.example_crash.specs.Single.{KeepsOrder, MayBeOpened, HasLived, HasTaken}
 use Rattle.example_crash.proofs.Carried.{Laws, has_taken}
 use Rattle.example_crash.proofs.Joining.{begun}
-use Rattle.example_crash.proofs.Surviving.{finds_new}
 use Rattle.example_crash.proofs.Taking.{here, none_taken}
 
 module _ (May : Drops) (laws : Laws) (finds : OpeningFinds MemStore world_of) (leaves : OpeningLeavesRead MemStore world_of) (strategies : Strategies) (was : MemStore) (config : Config) (first : MemStore) (old : Core)
     (opens : OpensTree world_of was (Ok (record { store = first; core = old }))) (core : old ≡ opened_core (raised (capped (above (found_entries old))) config) old.history.latest.version old.next_table) (small : HasSmallNumbers old.history.latest.version.levels) where
   pub has_opened : (m : Map) → MayBeOpened was m → next_number (found_entries old) [] ≤ old.seqno → (answers : List Told) (is : MemStore) (now : Core) → answers ≡ [] → RunHasMoments world_of strategies (take (length answers) []) answers (here May world_of first old) is now → RunIsRight strategies (take (length answers) []) answers old now
-      → StaysStored (world_of first) (world_of is) old now → HasTaken May m was config.seqno [] [] (record { store = is; core = now })
-  has_opened m may counted answers is now e run right stays =
+      → StaysStored (world_of first) (world_of is) old now → EachHasCause world_of answers was is → HasTaken May m was config.seqno [] [] (record { store = is; core = now })
+  has_opened m may counted answers is now e run right stays causes =
       let nothing = none_taken May world_of strategies [] answers first is old now e run right in
       let shows = opens.shows m may.stands in
       has_taken May laws m was (found_entries old) old.seqno [] [] is now
       (begun May world_of laws.join laws.kept strategies m was first is old now (found_entries old) nothing.0 nothing.1 stays shows.starts (ap (λ (c : Core). c.lost) core) (opens.stored may.ready) (found_low old.history.latest.version.levels small) counted
-      (found_same world_of finds was first old opens) (λ tables f. leaves was first tables may.ready f opens.leaves)) config.seqno (starts_above config old core small)
-
--- ---- a new store
-
-module _ (May : Drops) (m : Map) (was : MemStore) (from : ℕ) (steps : List Step) (told : List Told) (is : MemStore) (new : Begins none (world_of was)) (h : HasLived May m was from steps told is) where
-  opened_none : h.lives.opened ≡ []
-  opened_none = h.lives.found empty_levels (finds_new was new)
-
-  -- on which nothing is found, so that the counter stands where it was put
-  pub new_counter : h.lives.counter ≡ from
-  new_counter = let starts = h.lives.starts in let none_above = ap above opened_none in omega (arith, starts, none_above)
-
-  pub new_keeps : (list : List Step) → KeepsOrder [] from list → KeepsOrder h.lives.opened h.lives.counter list
-  new_keeps list k = subst (λ (es : List Entry). KeepsOrder es h.lives.counter list) (sym opened_none) (subst (λ (n : ℕ). KeepsOrder [] n list) (sym new_counter) k)
+      (found_same world_of finds was first old opens) (λ tables f. leaves was first tables may.ready f opens.leaves)) (subst (λ (ts : List Told). EachHasCause world_of ts was is) e causes) config.seqno (starts_above config old core small)

@@ -1,12 +1,14 @@
 pub mod Usual
+pub mod Drawn
+pub mod Blames
 pub mod Wants
-pub mod Surviving
 pub mod Growing
 pub mod Taking
 pub mod Joining
 pub mod Lived
 pub mod Orders
+pub mod HasLived
 pub mod Carried
 pub mod Beginning
 pub mod Again
-pub mod Nothing
+pub mod Courses

@@ -1,5 +1,5 @@
 -- Steps that keep the order: usual ones do, and so do the first so many.
-use Rattle.std.proofs.Common.{◌≡◌, ⊎_elim, inl, inr, ℕ, zero, suc, ◌+◌, ◌≤◌, max, arith, List, [], ◌∷◌, ◌++◌, map, take, subst, sym}
+use Rattle.std.proofs.Common.{◌≡◌, ⊎_elim, inl, inr, ℕ, zero, suc, ◌+◌, ◌≤◌, max, arith, List, [], ◌∷◌, ◌++◌, map, take, length, subst, sym}
 use Rattle.std.specs.List.{AllByRecursion}
 use Rattle.lsm_runs.specs.Entries.{Entry, above}
 use Rattle.lsm_runs.specs.Keys.{Bytes}
@@ -7,16 +7,21 @@ use Rattle.lsm_runs.specs.Members.{IsIn}
 use Rattle.lsm_runs.specs.Rising.{Drawing, Silent, Own, Raises, Reserves, Draws, Standing, At, UpTo, most, moved, unused, highest, MayDraw, RisesFrom, WeakOnce}
 use Rattle.lsm_runs.specs.declared.steps.Step.{Step}
 use Rattle.lsm_runs.specs.declared.steps.Step.TheVariants.{ClearActiveMemtable}
+use Rattle.lsm_runs.specs.declared.steps.Taken.{Taken}
 use Rattle.lsm_runs.specs.Drawing.{drawing_of, keys_set, keys_weak, asks_of}
 use Rattle.example_crash.specs.Single.{KeepsOrder, KeepsOrderAbove}
-use Rattle.example_crash.specs.Survival.{IsUsual}
-use Rattle.example_crash.proofs.Usual.{usual_plain, usual_rises, usual_weak}
+use Rattle.example_crash.specs.Survival.{IsUsual, steps_taken}
+use Rattle.example_crash.proofs.Usual.{usual_plain, usual_rises, usual_weak, first_usual}
 
 pub usual_keeps : (opened : List Entry) (counter : ℕ) (steps : List Step) → AllByRecursion IsUsual steps → KeepsOrder opened counter steps
 usual_keeps opened counter steps usual = record {
   plain = usual_plain steps usual;
   rise = record { numbers = usual_rises steps usual (above opened) (At counter); weak = usual_weak opened [] steps usual };
 }
+
+-- so do those of them that were taken
+pub usual_takes : (opened : List Entry) (counter : ℕ) (steps : List Step) (taken : Taken) → AllByRecursion IsUsual steps → KeepsOrder opened counter (steps_taken steps taken)
+usual_takes opened counter steps taken usual = usual_keeps opened counter (steps_taken steps taken) (first_usual (length taken.outcomes.items) steps usual)
 
 -- ---- the first so many
 

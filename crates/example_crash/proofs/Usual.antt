@@ -4,7 +4,7 @@ use Rattle.std.specs.List.{AllByRecursion}
 use Rattle.lsm_runs.specs.Keys.{Bytes}
 use Rattle.lsm_runs.specs.Entries.{Entry}
 use Rattle.lsm_runs.specs.Members.{each_in}
-use Rattle.lsm_runs.specs.Rising.{Standing, moved, unused, MayDraw, RisesFrom, WeakOnce}
+use Rattle.lsm_runs.specs.Rising.{Drawing, Silent, Draws, Standing, moved, unused, MayDraw, RisesFrom, WeakOnce}
 use Rattle.lsm_runs.specs.declared.steps.JobStep.{JobStep}
 use Rattle.lsm_runs.specs.declared.steps.JobStep.TheVariants.{RegisterTables, BeginCompaction, FinishCompaction}
 use Rattle.lsm_runs.specs.declared.steps.Step.{Step}
@@ -16,26 +16,37 @@ use Rattle.example_crash.specs.Survival.{IsUsual}
 pub usual_plain : (steps : List Step) → AllByRecursion IsUsual steps → IsPlainUse steps
 usual_plain steps usual i = each_in IsUsual steps step.ClearActiveMemtable usual i
 
-job_draws : (x : JobStep) (low : ℕ) (c : Standing) → MayDraw (job_drawing x) low c
-job_draws RegisterTables low c = tt
-job_draws (BeginCompaction at o) low c = tt
-job_draws FinishCompaction low c = tt
-job_draws x low c = tt
+-- a call that uses no number but the counter's next one
+abbrev pub OnlyDraws : Drawing → Type 0
+OnlyDraws Silent = Unit {0}
+OnlyDraws Draws = Unit {0}
+OnlyDraws call = ⊥
 
-draws : (x : Step) → IsUsual x → (low : ℕ) (c : Standing) → MayDraw (drawing_of x) low c
-draws (step.Insert k v n) usual low c = absurd usual
-draws (step.Remove k n) usual low c = absurd usual
-draws (step.RemoveWeak k n) usual low c = absurd usual
-draws (step.AppendEntry e) usual low c = absurd usual
-draws (step.Next counter) usual low c = absurd usual
-draws (step.Set counter n) usual low c = absurd usual
-draws (step.FetchMax counter n) usual low c = absurd usual
-draws (step.AtSlot slot x) usual low c = job_draws x low c
-draws x usual low c = tt
+job_draws : (x : JobStep) → OnlyDraws (job_drawing x)
+job_draws RegisterTables = tt
+job_draws (BeginCompaction at o) = tt
+job_draws FinishCompaction = tt
+job_draws x = tt
+
+pub usual_draws : (x : Step) → IsUsual x → OnlyDraws (drawing_of x)
+usual_draws (step.Insert k v n) usual = absurd usual
+usual_draws (step.Remove k n) usual = absurd usual
+usual_draws (step.RemoveWeak k n) usual = absurd usual
+usual_draws (step.AppendEntry e) usual = absurd usual
+usual_draws (step.Next counter) usual = absurd usual
+usual_draws (step.Set counter n) usual = absurd usual
+usual_draws (step.FetchMax counter n) usual = absurd usual
+usual_draws (step.AtSlot slot x) usual = job_draws x
+usual_draws x usual = tt
+
+may_draw : (call : Drawing) → OnlyDraws call → (low : ℕ) (c : Standing) → MayDraw call low c
+may_draw Silent only low c = tt
+may_draw Draws only low c = tt
+may_draw call only low c = absurd only
 
 pub usual_rises : (steps : List Step) → AllByRecursion IsUsual steps → (low : ℕ) (c : Standing) → RisesFrom low c (map drawing_of steps)
 usual_rises [] usual low c = tt
-usual_rises (x ∷ steps) usual low c = (draws x usual.0 low c, usual_rises steps usual.1 (unused (drawing_of x) low c) (moved (drawing_of x) c))
+usual_rises (x ∷ steps) usual low c = (may_draw (drawing_of x) (usual_draws x usual.0) low c, usual_rises steps usual.1 (unused (drawing_of x) low c) (moved (drawing_of x) c))
 
 none_weak : (x : Step) → IsUsual x → keys_weak x ≡ []
 none_weak (step.Write ops) usual = usual

@@ -1,16 +1,19 @@
 -- What is found below 2^63 is refused only for want of memory, or where a call of the store failed.
-use Rattle.std.proofs.Common.{ℕ, ◌+◌, ◌<◌, ◌≤◌, ◌^◌, arith, List, [], ◌∷◌, ◌++◌, map}
+use Rattle.std.proofs.Common.{ℕ, ◌+◌, ◌-◌, ◌<◌, ◌≤◌, ◌^◌, min, arith, List, [], ◌∷◌, ◌++◌, Err, map, refl}
 use Rattle.std.specs.List.{AllByRecursion, flat_map}
 use Rattle.lsm_runs.specs.Each.{each_append, each_left, each_right}
 use Rattle.lsm_runs.specs.Entries.{Entry, above}
 use Rattle.lsm_runs.specs.Error.{Error}
 use Rattle.lsm_runs.specs.Error.TheVariants.{OutOfMemory, Store, CommitUnknown, OutOfNumbers}
-use Rattle.lsm_runs.specs.World.{Image}
+use Rattle.lsm_runs.specs.Memory.{MemStore, world_of}
 use Rattle.lsm_runs.specs.Tables.{SeenTable}
 use Rattle.lsm_runs.specs.Views.{Table, Placed, placed_at, placed_from, held}
 use Rattle.lsm_runs.specs.Levels.{Levels, shown_table, shown_levels, placed_of}
 use Rattle.lsm_runs.specs.Finding.{Finds, RefusesFound}
 use Rattle.lsm_runs.specs.Standing.{HasSmallNumbers}
+use Rattle.lsm_manifest.specs.declared.opening.Opened.{Opened}
+use Rattle.lsm_manifest.specs.Recovery.{CountsStore}
+use Rattle.lsm_manifest.specs.Told.{Told, TellsOpen, told_counts}
 use Rattle.example_crash.specs.Survival.{IsWant}
 
 abbrev Low : Entry → Type 0
@@ -42,9 +45,9 @@ levels_low level (runs ∷ levels) h =
     let both = both_low (map (placed_at level) (flat_map (λ r. r) (map (λ run. map shown_table run) runs))) (placed_from (level + 1) (shown_levels levels)) h in
     (runs_low level runs both.0, levels_low (level + 1) levels both.1)
 
-pub wants : (image : Image) (e : Error) → ((levels : Levels) → Finds image levels → above (held (placed_of levels)) ≤ 2 ^ 63) → RefusesFound image e → IsWant e
-wants image OutOfMemory low refuses = tt
-wants image Store low refuses = tt
-wants image CommitUnknown low refuses = tt
-wants image OutOfNumbers low refuses = absurd (refuses.2 (levels_low 0 refuses.0 (each_low (held (placed_of refuses.0)) (low refuses.0 refuses.1))))
-wants image e low refuses = absurd refuses
+pub wants : (was is : MemStore) (e : Error) → ((levels : Levels) → Finds (world_of was).gives levels → above (held (placed_of levels)) ≤ 2 ^ 63) → RefusesFound (world_of was).gives e → Told TellsOpen (CountsStore {T = Opened} (world_of was) (world_of is)) (Err e) → IsWant e is.failures
+wants was is OutOfMemory low refuses told = tt
+wants was is Store low refuses told = let more = (told_counts {T = Opened} (world_of was) (world_of is) (Err Store) told).store refl in omega (arith, more)
+wants was is CommitUnknown low refuses told = let more = (told_counts {T = Opened} (world_of was) (world_of is) (Err CommitUnknown) told).unknown refl in omega (arith, more)
+wants was is OutOfNumbers low refuses told = absurd (refuses.2 (levels_low 0 refuses.0 (each_low (held (placed_of refuses.0)) (low refuses.0 refuses.1))))
+wants was is e low refuses told = absurd refuses

@@ -3,8 +3,9 @@ ghost use Rattle.std.specs.Prelude.{ℕ, List, None};
 ghost use Rattle.std.specs.FinMap.{empty};
 ghost use Rattle.lsm_runs.specs.Memory.{MemStore as Memory, may_of, world_of};
 ghost use Rattle.lsm_runs.specs.World.{Image, IsImage, Begins};
-ghost use Rattle.lsm_runs.specs.Journal.{Map};
+ghost use Rattle.lsm_runs.specs.Journal.{Map, next_number};
 ghost use Rattle.lsm_runs.specs.declared.steps.Step.{Step};
+ghost use Rattle.lsm_runs.specs.Runs.{journal_of};
 ghost use Rattle.lsm_runs.specs.Told.{Told};
 ghost use Rattle.lsm_runs.specs.Compacting.{strategies_of};
 ghost use Rattle.lsm_runs.specs.Dropping.{Allowance, AllowsDrops, allowed};
@@ -12,10 +13,10 @@ ghost use Rattle.example_crash.specs.Single.{KeepsOrder, MayBeOpened, HasLived, 
 ghost use Rattle.example_crash.specs.Joining.{SoFarBegins, SoFarGrows, SoFarLives, SoFarAnswers};
 
 use lsm_manifest::crashes_settle;
+use lsm_model::reads_are_sound;
 use lsm_run_model::{moments_join, order_without_reads, rising_is_in_order};
-use lsm_runs::TreeFiles;
-use lsm_tree::laws::reads_are_sound;
-use lsm_tree::{CompactionStrategy, MemStore, Reply};
+use lsm_runs::{Reply, TreeFiles};
+use lsm_state::{CompactionStrategy, MemStore};
 
 /// A tree is opened, and takes steps one by one, each by a `run` of its own, so that its caller acts between any two: all
 /// of them are a life as one run of them would be. What a crash leaves at any moment, in a step or between two, is a
@@ -37,8 +38,8 @@ pub fn single_steps_join(store: &MemStore, strategies: &[Box<dyn CompactionStrat
 /// left, be it by a crash or because its process ended, for a beginning of its calls.
 pub fn lives_follow(store: &MemStore)
     ensures new { (new : Memory) → Begins (λ _. None) (world_of new) → MayBeOpened new empty }
-    ensures ended { (may : Allowance) (m : Map) (was : Memory) (from : ℕ) (steps : List Step) (told : List Told) (is : Memory) → (h : HasLived (allowed may) m was from steps told is) → KeepsOrder h.lives.opened h.lives.counter steps → ComesAfter (allowed may) m steps told is }
-    ensures crashed { (may : Allowance) (m : Map) (was : Memory) (from : ℕ) (steps : List Step) (told : List Told) (is : Memory) → (h : HasLived (allowed may) m was from steps told is) → KeepsOrder h.lives.opened h.lives.counter steps → (image : Image) (left : Memory) → IsImage (may_of is.files) image → Begins image (world_of left) → ComesAfter (allowed may) m steps told left }
+    ensures ended { (may : Allowance) (m : Map) (was : Memory) (from : ℕ) (steps : List Step) (told : List Told) (is : Memory) → (h : HasLived (allowed may) m was from steps told is) → KeepsOrder h.lives.opened h.lives.counter steps → ComesAfter h.lives.opened m h.lives.outcomes (next_number h.lives.opened (journal_of told)) is }
+    ensures crashed { (may : Allowance) (m : Map) (was : Memory) (from : ℕ) (steps : List Step) (told : List Told) (is : Memory) → (h : HasLived (allowed may) m was from steps told is) → KeepsOrder h.lives.opened h.lives.counter steps → (image : Image) (left : Memory) → IsImage (may_of is.files) image → Begins image (world_of left) → ComesAfter h.lives.opened m h.lives.outcomes (next_number h.lives.opened (journal_of told)) left }
 {
     crashes_settle(store);
 }

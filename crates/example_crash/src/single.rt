@@ -1,6 +1,9 @@
 // A tree over a store in memory that takes steps one by one, so that its caller looks at each reply before he takes the next.
-ghost use Rattle.std.specs.Prelude.{◌≡◌, ◌≤◌, ◌++◌, ◌∷◌, ℕ, [], List, None, take, length, IfOk, IfErr, OnOk, OnErr};
+ghost use Rattle.std.specs.Prelude.{◌≡◌, ◌≤◌, ◌++◌, ◌∷◌, ℕ, [], List, None, take, length, Err, IfOk, IfErr, OnOk, OnErr};
 ghost use Rattle.std.specs.List.{AllByRecursion};
+ghost use Rattle.lsm_manifest.specs.Recovery.{CountsStore};
+ghost use Rattle.lsm_manifest.specs.Told.{Told as Refusal, TellsOpen};
+ghost use Rattle.lsm_state.specs.Opened.{files_told};
 ghost use Rattle.lsm_runs.specs.Journal.{Map};
 ghost use Rattle.lsm_runs.specs.Finding.{RefusesFound};
 ghost use Rattle.lsm_runs.specs.Memory.{MemStore as Memory, world_of};
@@ -10,18 +13,15 @@ ghost use Rattle.lsm_runs.specs.Told.{Told};
 ghost use Rattle.lsm_runs.specs.Compacting.{strategies_of};
 ghost use Rattle.lsm_runs.specs.Dropping.{Allowance, AllowsDrops, allowed};
 ghost use Rattle.example_crash.specs.Single.{MayBeOpened, HasLived, HasTaken};
-ghost use Rattle.example_crash.specs.Survival.{IsUsual, SurvivesOrWants, CrashesAsPicked};
+ghost use Rattle.example_crash.specs.Survival.{IsUsual, steps_taken, Goes, CrashesAsPicked};
 
 use crate::by_hand::crash_by_hand;
-use crate::lives::TwoLives;
-use lsm_manifest::opening_finds;
+use crate::lives::{Course, Life};
+use lsm_manifest::{opening_finds, openings_leave_what_was_read};
+use lsm_model::reads_are_sound;
 use lsm_run_model::{moments_join, numbers_are_bounded, order_without_reads, rising_is_in_order};
-use lsm_runs::TreeFiles;
-use lsm_tree::laws::{openings_leave_what_was_read, reads_are_sound};
-use lsm_tree::{
-    CompactionStrategy, Config, Error, MemStore, Outcome, Pick, Reply, SeqNo, Step, Taken,
-    TreeState, run,
-};
+use lsm_runs::{Outcome, Reply, Step, Taken, TreeFiles, run};
+use lsm_state::{CompactionStrategy, Config, Error, MemStore, Pick, SeqNo, TreeState};
 use std::alloc::{AllocError, Global};
 
 /// Opens the tree of a store, with its counter at a number, or above what is found, if that is higher.
@@ -30,9 +30,10 @@ pub fn open(
     store: MemStore,
     strategies: &[Box<dyn CompactionStrategy>],
     from: SeqNo,
-) -> Result<TreeState<MemStore>, Error>
+) -> Result<TreeState<MemStore>, (Error, MemStore)>
     ensures opens { (may : Allowance) (m : Map) → MayBeOpened store m → IfOk result (λ t. HasTaken (allowed may) m store from [] [] t) }
-    ensures refused { (m : Map) → MayBeOpened store m → IfErr result (RefusesFound (world_of store).gives) }
+    ensures refused { (m : Map) → MayBeOpened store m → IfErr result (λ e. RefusesFound (world_of store).gives e.0) }
+    ensures counts { IfErr result (λ e. Refusal TellsOpen (CountsStore (world_of store) (world_of e.1)) (files_told (Err e))) }
 {
     opening_finds(&store);
     openings_leave_what_was_read(&store);
@@ -43,7 +44,7 @@ pub fn open(
     numbers_are_bounded();
     let mut tree = match TreeState::open_raised(alloc, Config::new(0, from, from), store) {
         Ok(tree) => tree,
-        Err((error, _)) => return Err(error),
+        Err(refused) => return Err(refused),
     };
     let taken = run(alloc, &mut tree, strategies, &[]);
     drop(taken);
@@ -145,28 +146,36 @@ pub fn live_singly(
     strategies: &[Box<dyn CompactionStrategy>],
     from: SeqNo,
     steps: &[Step],
-) -> Result<(MemStore, Taken), Error>
-    ensures bound { IfOk result (λ r. length r.1.outcomes.items ≤ length steps.now) }
-    ensures whole { IfOk result (λ r. OnOk r.1.ended (length r.1.outcomes.items ≡ length steps.now)) }
-    ensures refused { (m : Map) → MayBeOpened store m → IfErr result (RefusesFound (world_of store).gives) }
-    ensures lives { (may : Allowance) → AllowsDrops (allowed may) (strategies_of (λ b. may_choose b) (λ b. may_refuse b) strategies.now) → (m : Map) → MayBeOpened store m → IfOk result (λ r. HasLived (allowed may) m store from (take (length r.1.outcomes.items) steps.now) r.1.outcomes.items r.0) }
+) -> Result<Life, (Error, MemStore)>
+    ensures bound { IfOk result (λ l. length l.taken.outcomes.items ≤ length steps.now) }
+    ensures whole { IfOk result (λ l. OnOk l.taken.ended (length l.taken.outcomes.items ≡ length steps.now)) }
+    ensures lives { (may : Allowance) → AllowsDrops (allowed may) (strategies_of (λ b. may_choose b) (λ b. may_refuse b) strategies.now) → (m : Map) → MayBeOpened store m → IfOk result (λ l. HasLived (allowed may) m store from (steps_taken steps.now l.taken) l.taken.outcomes.items l.store) }
+    ensures refused { (m : Map) → MayBeOpened store m → IfErr result (λ e. RefusesFound (world_of store).gives e.0) }
+    ensures counts { IfErr result (λ e. Refusal TellsOpen (CountsStore (world_of store) (world_of e.1)) (files_told (Err e))) }
 {
-    let mut tree = open(alloc, store, strategies, from)?;
+    let mut tree = match open(alloc, store, strategies, from) {
+        Ok(tree) => tree,
+        Err(refused) => return Err(refused),
+    };
     let taken = take_each(alloc, &mut tree, strategies, steps);
-    Ok((tree.into_store(), taken))
+    Ok(Life {
+        taken,
+        store: tree.into_store(),
+    })
 }
 
 /// As `crash_between`, where each step is taken by a run of its own.
 pub fn crash_between_single_steps(
     alloc: Global,
     store: MemStore,
+    strategies: &[Box<dyn CompactionStrategy>],
     first: &[Step],
     picks: &[(&str, Pick<'_>)],
     second: &[Step],
-) -> Result<Option<TwoLives>, Error>
+) -> Result<Course, AllocError>
     requires new { Begins (λ _. None) (world_of store) }
-    ensures survives { AllByRecursion IsUsual first.now → AllByRecursion IsUsual second.now → SurvivesOrWants first.now second.now result }
-    ensures crashed { CrashesAsPicked 0 picks.now store first.now result }
+    ensures goes { (may : Allowance) → AllowsDrops (allowed may) (strategies_of (λ b. may_choose b) (λ b. may_refuse b) strategies.now) → AllByRecursion IsUsual first.now → AllByRecursion IsUsual second.now → IfOk result (Goes (allowed may) 0 first.now picks.now 0 second.now) }
+    ensures crashed { (may : Allowance) → AllowsDrops (allowed may) (strategies_of (λ b. may_choose b) (λ b. may_refuse b) strategies.now) → IfOk result (CrashesAsPicked (allowed may) 0 store first.now picks.now) }
 {
-    crash_by_hand(alloc, store, 0, first, picks, 0, second)
+    crash_by_hand(alloc, store, strategies, 0, first, picks, 0, second)
 }

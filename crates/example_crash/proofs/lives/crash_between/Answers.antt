@@ -1,66 +1,48 @@
-use Rattle.std.proofs.Common.{false, length, take, subst}
-use Rattle.std.proofs.lemmas.Result.{err_from_is_err_and}
+use Rattle.std.proofs.Common.{subst}
 use Rattle.std.specs.FinMap.{empty}
 use Rattle.lsm_runs.specs.Picks.{picked, Crashes}
-use Rattle.example_crash.proofs.Usual.{first_usual}
-use Rattle.example_crash.proofs.Surviving.{refused_new, begins_itself, crash_leaves}
-use Rattle.example_crash.proofs.Wants.{wants}
-use Rattle.lsm_manifest.proofs.FindingLemmas.{nothing_in as none, nothing_stands}
+use Rattle.lsm_runs.specs.Dropping.{allowed}
+use Rattle.example_crash.proofs.Again.{opens_new}
+use Rattle.example_crash.proofs.Courses.{refused_new, crashed_not, crashed_again, crashed_lived, goes_not, goes_again, goes_lived}
+use Rattle.example_crash.proofs.Orders.{usual_takes}
 use Rattle.example_crash.proofs.lives.crash_between.Goals as goal
 
-pub returns-clause-survives : goal.returns-clause-survives
-returns-clause-survives c usual more_usual =
-    let store = c.args.store in
-    let ready = c.crashes_settle.ensures.ready store none empty nothing_stands c.requires.new in
-    let stands = c.crashes_settle.ensures.stands store none empty nothing_stands c.requires.new in
-    let told = c.in_ok-store.before.outcomes.items in
-    let is = c.in_ok-store.store in
-    let image = picked is.files c.args.picks.now in
-    let crashed = subst (Crashes is.files image) c.in-Some.is c.in_ok-left.ensures in
-    let kept = crash_leaves c.images_stand_once.ensures.found (c.any_number_of_lives.ensures (λ at ranges. false)) 0 store is c.in-Some.left image crashed.0 crashed.1.world c.requires.new (take (length told) c.args.first.now) told
-    (first_usual (length told) c.args.first.now usual) (λ m stands. c.in_ok-store.ensures.lives ready m stands) in
-    let again = c.crashes_settle.ensures.ready c.in-Some.left _ kept.0 kept.1.stands (begins_itself image c.in-Some.left crashed.1.world) in
-    record {
-      before = c.in_ok-store.ensures.answers ready empty stands usual;
-      left = kept.0;
-      kept = kept.2;
-      after = c.in_ok-after.ensures.answers again kept.0 kept.1.stands more_usual;
-    }
+pub returns-in-Err-clause-goes : goal.returns-in-Err-clause-goes
+returns-in-Err-clause-goes g c may allows usual more_usual =
+    refused_new c.crashes_settle.ensures.ready c.crashes_settle.ensures.stands c.images_stand_once.ensures.found c.args.store c.requires.new c.in-Err.error c.in-Err.store (c.in-Err.ensures.refused, c.in-Err.ensures.counts)
 
-pub returns-clause-crashed : goal.returns-clause-crashed
-returns-clause-crashed c =
-    let store = c.args.store in
-    let ready = c.crashes_settle.ensures.ready store none empty nothing_stands c.requires.new in
-    let stands = c.crashes_settle.ensures.stands store none empty nothing_stands c.requires.new in
-    let is = c.in_ok-store.store in
-    record { is = is; lives = c.in_ok-store.ensures.lives ready empty stands; has = (subst (Crashes is.files (picked is.files c.args.picks.now)) c.in-Some.is c.in_ok-left.ensures).0 }
+pub returns-in_default-clause-goes : goal.returns-in_default-clause-goes
+returns-in_default-clause-goes g c may allows usual more_usual =
+    let h = c.in-Ok.ensures.lives may allows empty (opens_new c.crashes_settle.ensures.ready c.crashes_settle.ensures.stands c.args.store c.requires.new) in
+    let k = usual_takes h.lives.opened h.lives.counter c.args.first.now c.in-Ok.life.taken usual in
+    goes_not (allowed may) c.args.store 0 c.args.first.now c.args.picks.now c.in-Ok.life h c.requires.new k c.in-Ok.ensures.whole 0 c.args.second.now (subst (Crashes c.in-Ok.life.store.files (picked c.in-Ok.life.store.files c.args.picks.now)) c.in_default.is c.in_ok-left.ensures)
+
+pub returns-in-Ok-live_on-clause-goes : goal.returns-in-Ok-live_on-clause-goes
+returns-in-Ok-live_on-clause-goes g c may allows usual more_usual =
+    let h = c.in-Ok.ensures.lives may allows empty (opens_new c.crashes_settle.ensures.ready c.crashes_settle.ensures.stands c.args.store c.requires.new) in
+    let k = usual_takes h.lives.opened h.lives.counter c.args.first.now c.in-Ok.life.taken usual in
+    goes_lived (allowed may) c.args.store 0 c.args.first.now c.args.picks.now c.in-Ok.life h c.requires.new k c.in-Ok.ensures.whole 0 c.args.second.now c.crashes_settle.ensures.ready c.in-Some.left (subst (Crashes c.in-Ok.life.store.files (picked c.in-Ok.life.store.files c.args.picks.now)) c.in-Some.is c.in_ok-left.ensures) c.in-Ok-live_on.after (c.in-Ok-live_on.ensures.lives may allows)
+    (λ m l low. usual_takes l.lives.opened l.lives.counter c.args.second.now c.in-Ok-live_on.after.taken more_usual) c.in-Ok-live_on.ensures.whole
+
+pub returns-in-Err-live_on-clause-goes : goal.returns-in-Err-live_on-clause-goes
+returns-in-Err-live_on-clause-goes g c may allows usual more_usual =
+    let h = c.in-Ok.ensures.lives may allows empty (opens_new c.crashes_settle.ensures.ready c.crashes_settle.ensures.stands c.args.store c.requires.new) in
+    let k = usual_takes h.lives.opened h.lives.counter c.args.first.now c.in-Ok.life.taken usual in
+    goes_again (allowed may) c.args.store 0 c.args.first.now c.args.picks.now c.in-Ok.life h c.requires.new k c.in-Ok.ensures.whole 0 c.args.second.now c.crashes_settle.ensures.ready c.in-Some.left (subst (Crashes c.in-Ok.life.store.files (picked c.in-Ok.life.store.files c.args.picks.now)) c.in-Some.is c.in_ok-left.ensures) c.in-Err-live_on.error c.in-Err-live_on.store (c.in-Err-live_on.ensures.refused, c.in-Err-live_on.ensures.counts)
+
+-- ---- the store after the first life
 
 pub returns-in_default-clause-crashed : goal.returns-in_default-clause-crashed
-returns-in_default-clause-crashed c =
-    let store = c.args.store in
-    let ready = c.crashes_settle.ensures.ready store none empty nothing_stands c.requires.new in
-    let stands = c.crashes_settle.ensures.stands store none empty nothing_stands c.requires.new in
-    let is = c.in_ok-store.store in
-    (c.in_ok-store.before.outcomes.items, record { is = is; lives = c.in_ok-store.ensures.lives ready empty stands; has = subst (Crashes is.files (picked is.files c.args.picks.now)) c.in_default.is c.in_ok-left.ensures })
+returns-in_default-clause-crashed g c may allows =
+    let h = c.in-Ok.ensures.lives may allows empty (opens_new c.crashes_settle.ensures.ready c.crashes_settle.ensures.stands c.args.store c.requires.new) in
+    crashed_not (allowed may) c.args.store 0 c.args.first.now c.args.picks.now c.in-Ok.life h (subst (Crashes c.in-Ok.life.store.files (picked c.in-Ok.life.store.files c.args.picks.now)) c.in_default.is c.in_ok-left.ensures)
 
--- ---- refusals
+pub returns-in-Ok-live_on-clause-crashed : goal.returns-in-Ok-live_on-clause-crashed
+returns-in-Ok-live_on-clause-crashed g c may allows =
+    let h = c.in-Ok.ensures.lives may allows empty (opens_new c.crashes_settle.ensures.ready c.crashes_settle.ensures.stands c.args.store c.requires.new) in
+    crashed_lived (allowed may) c.args.store 0 c.args.first.now c.args.picks.now c.in-Ok.life h c.in-Some.left (subst (Crashes c.in-Ok.life.store.files (picked c.in-Ok.life.store.files c.args.picks.now)) c.in-Some.is c.in_ok-left.ensures) c.in-Ok-live_on.after
 
-pub returns-in_err-store-clause-survives : goal.returns-in_err-store-clause-survives
-returns-in_err-store-clause-survives c usual more_usual =
-    let p = err_from_is_err_and c.from_residual.result c.from_residual.ensures.1 in
-    let store = c.args.store in
-    let stands = c.crashes_settle.ensures.stands store none empty nothing_stands c.requires.new in
-    rw (p.1, p.2) (refused_new c.images_stand_once.ensures.found store c.requires.new c.in_err-store.field-0.0 (c.in_err-store.ensures.refused empty stands))
-
-pub returns-in_err-after-clause-survives : goal.returns-in_err-after-clause-survives
-returns-in_err-after-clause-survives c usual more_usual =
-    let p = err_from_is_err_and c.from_residual-in_err-after.result c.from_residual-in_err-after.ensures.1 in
-    let store = c.args.store in
-    let ready = c.crashes_settle.ensures.ready store none empty nothing_stands c.requires.new in
-    let told = c.in_ok-store.before.outcomes.items in
-    let is = c.in_ok-store.store in
-    let image = picked is.files c.args.picks.now in
-    let crashed = subst (Crashes is.files image) c.in-Some.is c.in_ok-left.ensures in
-    let kept = crash_leaves c.images_stand_once.ensures.found (c.any_number_of_lives.ensures (λ at ranges. false)) 0 store is c.in-Some.left image crashed.0 crashed.1.world c.requires.new (take (length told) c.args.first.now) told
-    (first_usual (length told) c.args.first.now usual) (λ m stands. c.in_ok-store.ensures.lives ready m stands) in
-    rw (p.1, p.2) (wants _ c.in_err-after.field-0.0 kept.1.below (c.in_err-after.ensures.refused kept.0 kept.1.stands))
+pub returns-in-Err-live_on-clause-crashed : goal.returns-in-Err-live_on-clause-crashed
+returns-in-Err-live_on-clause-crashed g c may allows =
+    let h = c.in-Ok.ensures.lives may allows empty (opens_new c.crashes_settle.ensures.ready c.crashes_settle.ensures.stands c.args.store c.requires.new) in
+    crashed_again (allowed may) c.args.store 0 c.args.first.now c.args.picks.now c.in-Ok.life h c.in-Some.left (subst (Crashes c.in-Ok.life.store.files (picked c.in-Ok.life.store.files c.args.picks.now)) c.in-Some.is c.in_ok-left.ensures) c.in-Err-live_on.error c.in-Err-live_on.store

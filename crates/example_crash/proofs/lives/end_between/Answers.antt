@@ -1,47 +1,32 @@
-use Rattle.std.proofs.Common.{false, length, take, refl}
-use Rattle.std.proofs.lemmas.Result.{err_from_is_err_and}
+use Rattle.std.proofs.Common.{◌^◌, ◌-◌, min, arith}
 use Rattle.std.specs.FinMap.{empty}
-use Rattle.lsm_runs.specs.Memory.{world_of}
-use Rattle.lsm_run_model.specs.Lives.{Killed}
-use Rattle.example_crash.proofs.Usual.{first_usual}
-use Rattle.example_crash.proofs.Surviving.{refused_new, survives, stays_ready, ended_now, given_now}
-use Rattle.example_crash.proofs.Wants.{wants}
-use Rattle.lsm_manifest.proofs.FindingLemmas.{nothing_in as none, nothing_stands}
+use Rattle.lsm_runs.specs.Dropping.{allowed}
+use Rattle.example_crash.specs.Survival.{steps_taken}
+use Rattle.example_crash.proofs.Again.{opens_new, comes_ended, survives}
+use Rattle.example_crash.proofs.Blames.{rises}
+use Rattle.example_crash.proofs.Courses.{refused_new, refused_again}
+use Rattle.example_crash.proofs.Orders.{usual_takes}
 use Rattle.example_crash.proofs.lives.end_between.Goals as goal
 
-pub returns : goal.returns
-returns c usual more_usual =
-    let was = c.args.store in
-    let is = c.in_ok-store.store in
-    let ready = c.crashes_settle.ensures.ready was none empty nothing_stands c.requires.new in
-    let stands = c.crashes_settle.ensures.stands was none empty nothing_stands c.requires.new in
-    let told = c.in_ok-store.before.outcomes.items in
-    let first = first_usual (length told) c.args.first.now usual in
-    let kept = survives c.images_stand_once.ensures.found (c.any_number_of_lives.ensures (λ at ranges. false)) 0 was is (Killed is) c.requires.new (ended_now is) (take (length told) c.args.first.now) told first (λ m stands. c.in_ok-store.ensures.lives ready m stands) (world_of is).gives (given_now is) in
-    let again = stays_ready c.images_stand_once.ensures.found (c.any_number_of_lives.ensures (λ at ranges. false)) 0 was is (Killed is) c.requires.new (ended_now is) (take (length told) c.args.first.now) told first (λ m stands. c.in_ok-store.ensures.lives ready m stands) empty stands is refl in
-    record {
-      before = c.in_ok-store.ensures.answers ready empty stands usual;
-      left = kept.0;
-      kept = kept.2;
-      after = c.in_ok-after.ensures.answers again kept.0 kept.1.stands more_usual;
-    }
+pub returns-in-Err : goal.returns-in-Err
+returns-in-Err g c may allows usual more_usual =
+    refused_new c.crashes_settle.ensures.ready c.crashes_settle.ensures.stands c.images_stand_once.ensures.found c.args.store c.requires.new c.in-Err.refused.0 c.in-Err.refused.1 (c.in-Err.ensures.refused, c.in-Err.ensures.counts)
 
--- ---- refusals
+pub returns-in-Ok-live_on : goal.returns-in-Ok-live_on
+returns-in-Ok-live_on g c may allows usual more_usual =
+    let life = c.in-Ok.life in
+    let after = c.in-Ok-live_on.after in
+    let h = c.in-Ok.ensures.lives may allows empty (opens_new c.crashes_settle.ensures.ready c.crashes_settle.ensures.stands c.args.store c.requires.new) in
+    let k = usual_takes h.lives.opened h.lives.counter c.args.first.now life.taken usual in
+    let comes = comes_ended (allowed may) empty c.args.store 0 (steps_taken c.args.first.now life.taken) life.taken.outcomes.items life.store h k in
+    let more = rises after.taken.outcomes.items life.store after.store (c.in-Ok-live_on.ensures.lives may allows comes.left comes.opens).causes in
+    survives (allowed may) c.args.store 0 c.args.first.now life.taken life.store c.requires.new h k c.in-Ok.ensures.whole life.store comes 0 c.args.second.now after.taken after.store (c.in-Ok-live_on.ensures.lives may allows)
+    (λ m l low. usual_takes l.lives.opened l.lives.counter c.args.second.now after.taken more_usual) c.in-Ok-live_on.ensures.whole after.store.failures (λ some. omega (arith, more, some))
 
-pub returns-in_err-store : goal.returns-in_err-store
-returns-in_err-store c usual more_usual =
-    let p = err_from_is_err_and c.from_residual.result c.from_residual.ensures.1 in
-    let store = c.args.store in
-    let stands = c.crashes_settle.ensures.stands store none empty nothing_stands c.requires.new in
-    rw (p.1, p.2) (refused_new c.images_stand_once.ensures.found store c.requires.new c.in_err-store.field-0.0 (c.in_err-store.ensures.refused empty stands))
-
-pub returns-in_err-after : goal.returns-in_err-after
-returns-in_err-after c usual more_usual =
-    let p = err_from_is_err_and c.from_residual-in_err-after.result c.from_residual-in_err-after.ensures.1 in
-    let was = c.args.store in
-    let is = c.in_ok-store.store in
-    let ready = c.crashes_settle.ensures.ready was none empty nothing_stands c.requires.new in
-    let told = c.in_ok-store.before.outcomes.items in
-    let first = first_usual (length told) c.args.first.now usual in
-    let kept = survives c.images_stand_once.ensures.found (c.any_number_of_lives.ensures (λ at ranges. false)) 0 was is (Killed is) c.requires.new (ended_now is) (take (length told) c.args.first.now) told first (λ m stands. c.in_ok-store.ensures.lives ready m stands) (world_of is).gives (given_now is) in
-    rw (p.1, p.2) (wants _ c.in_err-after.field-0.0 kept.1.below (c.in_err-after.ensures.refused kept.0 kept.1.stands))
+pub returns-in-Err-live_on : goal.returns-in-Err-live_on
+returns-in-Err-live_on g c may allows usual more_usual =
+    let life = c.in-Ok.life in
+    let h = c.in-Ok.ensures.lives may allows empty (opens_new c.crashes_settle.ensures.ready c.crashes_settle.ensures.stands c.args.store c.requires.new) in
+    let k = usual_takes h.lives.opened h.lives.counter c.args.first.now life.taken usual in
+    let comes = comes_ended (allowed may) empty c.args.store 0 (steps_taken c.args.first.now life.taken) life.taken.outcomes.items life.store h k in
+    refused_again life.store comes c.in-Err-live_on.refused.0 c.in-Err-live_on.refused.1 (c.in-Err-live_on.ensures.refused, c.in-Err-live_on.ensures.counts)
